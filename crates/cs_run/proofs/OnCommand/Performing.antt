@@ -37,12 +37,12 @@ use Rattle.cs_chain_text.specs.Text.{IsChainsText}
 use Rattle.cs_choices.specs.declared.weigh.Weigh.TheVariants.{Nodes}
 use Rattle.cs_grammar.specs.Grammar.{PlainGrammar}
 use Rattle.cs_scanner.specs.Scan.Scan.{Scans}
-use Rattle.cs_deep.specs.Membership.{GrewByFront, IsMemberText}
+use Rattle.cs_deep.specs.Membership.{IsMemberText}
 use Rattle.cs_run.specs.Ending.Summary.{IsSummary}
 use Rattle.cs_run.specs.Ending.Texts.{Denies, IsTextBy, IsTextOf, IsTextOfPair, NoneDenies}
 use Rattle.cs_run.specs.Writer.Suite.{IsRules, IsSuite}
 use Rattle.cs_io.specs.Asked.{GrewByPart, HasRoomForAll}
-use Rattle.cs_run.specs.Command.Carrying.{CarriesOut, GrewByEach, HasTooManyChains, HasTooManyStates, TakesGrammar, TakesPair, TakesThird, Writes, WritesBy, WritesByPair, WritesOfGrammar, WritesOfPair, WritesSure, WritingEnds}
+use Rattle.cs_run.specs.Command.Carrying.{CarriesOut, GrewByEach, GrewBySome, HasTooManyChains, HasTooManyStates, TakesGrammar, TakesPair, TakesThird, Writes, WritesBy, WritesByPair, WritesOfGrammar, WritesOfPair, WritesSummary, WritesSure, WritingEnds}
 use Rattle.cs_run.specs.Command.Words.{AskForNoFiles, PerformsFor, ending_of}
 use Rattle.cs_run.proofs.OnInput.Meanings.{one_meaning}
 
@@ -133,7 +133,8 @@ part_more Member Is Are out there back (inr (text, is, part)) = inr (text, there
 part_more (OfGrammar c) Is Are out there back part = λ text is. part text (back text is)
 part_more (OfPair c) Is Are out there back part = λ text is. part text (back text is)
 part_more Check Is Are out there back part = λ text is. part text (back text is)
-part_more Gen Is Are out there back part = λ text is. part text (back text is)
+part_more Gen Is Are out there back (inl same) = inl same
+part_more Gen Is Are out there back (inr (text, is, part)) = inr (text, there text is, part)
 
 -- ---- by what contents mean
 
@@ -160,9 +161,10 @@ carried request meant ending out writes contents mean =
 
 module _ (ending : Ending) (out : SinkUse) where
   -- where there is a text in any case
-  sure_row : (within : Type 0) (beyond : Refusal → Type 0) (Is : List ℕ → Type 0) → within → WritesSure Is ending out → Writes within beyond Is (GrewByEach Is) NoneDenies ending out
-  sure_row within beyond Is is writes =
-      writes_more (Unit {0}) within (λ refusal. ⊥) beyond Is Is (GrewByEach Is) (GrewByEach Is) NoneDenies out (λ yes. is) (λ refusal none. absurd none) (λ yes text has. has) (λ yes part. part) ending writes
+  sure_row : (within : Type 0) (beyond : Refusal → Type 0) (Is : List ℕ → Type 0) (Part : SinkUse → Type 0) → within → Writes (Unit {0}) (λ refusal. ⊥) Is Part NoneDenies ending out
+      → Writes within beyond Is Part NoneDenies ending out
+  sure_row within beyond Is Part is writes =
+      writes_more (Unit {0}) within (λ refusal. ⊥) beyond Is Is Part Part NoneDenies out (λ yes. is) (λ refusal none. absurd none) (λ yes text has. has) (λ yes part. part) ending writes
 
   -- where there is one unless the automaton has too many states
   pair_row : (within : Type 0) (beyond : Refusal → Type 0) (Is : List ℕ → Type 0) (two : pair.Pair) → ((¬ HasManyStates two.lex) → within) → (HasManyStates two.lex → beyond States)
@@ -183,13 +185,13 @@ module _ (ending : Ending) (out : SinkUse) where
   rules_so c arguments options file is writes =
       subst (λ (d : Command). WritesBy d arguments options (Grammar file) ending out) (sym is)
       (sure_row (IsWithin (Grammar file) (OfGrammar of_grammar.Rules)) (λ refusal. IsBeyond (Grammar file) refusal (OfGrammar of_grammar.Rules))
-      (IsTextBy (OfGrammar of_grammar.Rules) arguments options (Grammar file)) (none_listed (OfGrammar of_grammar.Rules) file.grammar refl) writes)
+      (IsTextBy (OfGrammar of_grammar.Rules) arguments options (Grammar file)) (GrewByEach (IsRules file)) (none_listed (OfGrammar of_grammar.Rules) file.grammar refl) writes)
 
-  pub gen_so : (c : Command) (arguments : PlainArguments) (options : Options) (seed : ℕ) → c ≡ Gen → arguments ≡ Number seed → WritesSure (IsSummary seed) ending out → WritesBy c arguments options Nothing ending out
+  pub gen_so : (c : Command) (arguments : PlainArguments) (options : Options) (seed : ℕ) → c ≡ Gen → arguments ≡ Number seed → WritesSummary seed ending out → WritesBy c arguments options Nothing ending out
   gen_so c arguments options seed is given writes =
       subst (λ (d : Command). WritesBy d arguments options Nothing ending out) (sym is)
       (subst (λ (a : PlainArguments). WritesBy Gen a options Nothing ending out) (sym given)
-      (sure_row (IsWithin Nothing Gen) (λ refusal. IsBeyond Nothing refusal Gen) (IsTextBy Gen (Number seed) options Nothing) tt writes))
+      (sure_row (IsWithin Nothing Gen) (λ refusal. IsBeyond Nothing refusal Gen) (IsTextBy Gen (Number seed) options Nothing) (GrewBySome (IsSummary seed)) tt writes))
 
   -- the text that a command asks for by a pair was written, which lists no chains
   pair_so : (command : PairCommand) (c : Command) (arguments : PlainArguments) (options : Options) (two : pair.Pair) → HasNoLimit (OfPair command) → c ≡ OfPair command
@@ -250,7 +252,7 @@ pub tokens_so : (beside : PairAndText) (tokens : List ℕ) (ending : Ending) (ou
     → WritesTokens beside.pair.yacc.grammar tokens ending out → WritesMembership beside ending out
 tokens_so beside tokens ending out few scans writes arguments options =
     writes_more (length tokens ≤ 2000) (IsWithin (Text beside) Member) (λ refusal. (refusal ≡ TextTokens (length tokens)) × (2000 < length tokens)) (λ refusal. IsBeyond (Text beside) refusal Member)
-    Is Are (λ sink. GrewByFront Is sink.written.before sink.written.after) (GrewAsAsked Member Are) NoneDenies out
+    Is Are (GrewBySome Is) (GrewAsAsked Member Are) NoneDenies out
     (λ short. (few, (λ takes. (length tokens, (tokens, scans, refl), short))))
     (λ refusal why. subst (λ (r : Refusal). IsBeyond (Text beside) r Member) (sym why.0) (few, refl, (tokens, scans, refl), why.1))
     (λ short text is. (tokens, scans, is)) (λ short part. fronts part) ending writes
@@ -261,7 +263,7 @@ tokens_so beside tokens ending out few scans writes arguments options =
     Are : List ℕ → Type 0
     Are text = IsTextBy Member arguments options (Text beside) text
 
-    fronts : GrewByFront Is out.written.before out.written.after → GrewByFront Are out.written.before out.written.after
+    fronts : GrewBySome Is out → GrewBySome Are out
     fronts (inl same) = inl same
     fronts (inr (text, is, part)) = inr (text, (tokens, scans, is), part)
 

@@ -7,7 +7,7 @@ use Rattle.cs_words.specs.declared.command.Role.{Role}
 use Rattle.cs_words.specs.Requests.{PlainRequest}
 use Rattle.cs_run.specs.declared.ending.ending.Ending.{Ending}
 use Rattle.cs_run.specs.declared.ending.ending.Ending.TheVariants.{Written, Denied, Refused, BadWord, NoFile, Halted}
-use Rattle.cs_run.specs.Ending.Ending.{Ends, IsReported, Performs, Says, WroteDenial, WroteText, WrotePart, WrotePartOfAccepted, line_of, status_of}
+use Rattle.cs_run.specs.Ending.Ending.{Ends, IsReported, Performs, Says, WroteDenial, WroteText, WrotePart, line_of, status_of}
 use Rattle.cs_run.specs.Ending.Files.{AreAccepted, AreRefused, HasNoFileFor}
 use Rattle.cs_run.specs.Ending.Headline.{IsStatusBy, KeepsPromises}
 use Rattle.cs_run.specs.Ending.Texts.{AreTold}
@@ -36,11 +36,8 @@ not_among n k (inr is) some few same = omega (arith, is, few, same)
 -- ---- each ending's status
 
 module _ (asked : Result PlainRequest ℕ) (desk : DeskUse) (out err : SinkUse) where
-  part_accepted : (words : Result PlainRequest ℕ) → WrotePartOfAccepted words desk out → IsOkAnd words (AreAccepted desk.files)
+  part_accepted : (words : Result PlainRequest ℕ) → WrotePart words desk out → IsOkAnd words (AreAccepted desk.files)
   part_accepted words part = asked_more words part (λ request p. (p.0, p.1, p.2.0))
-
-  part_written : (words : Result PlainRequest ℕ) → WrotePartOfAccepted words desk out → WrotePart words desk out
-  part_written words part = asked_more words part (λ request p. (p.0, p.1, p.2.1))
 
   -- what is left to say of an ending, once its cause is known
   record Rest (ending : Ending) : Type 0 where
@@ -189,9 +186,9 @@ module _ (asked : Result PlainRequest ℕ) (desk : DeskUse) (out err : SinkUse) 
   prefix (Refused refusal) ends above = absurd (omega (arith, above.0))
   prefix (BadWord at) ends above = absurd (omega (arith, above.0))
   prefix (NoFile role) ends above = absurd (omega (arith, above.0))
-  prefix (Halted Failed) ends above = inr (part_written asked ends.0)
+  prefix (Halted Failed) ends above = inr ends.0
   prefix (Halted Memory) (inl unused) above = inl unused
-  prefix (Halted Memory) (inr part) above = inr (part_written asked part)
+  prefix (Halted Memory) (inr part) above = inr part
 
   within : (e : Ending) → status_of e ≤ 6
   within Written = omega arith

@@ -1,4 +1,4 @@
--- The pair of files that a number stands for has one summary.
+-- The pair of files that a number stands for has a summary.
 use Rattle.std.proofs.Common.{◌≡◌, ℕ, ◌≤◌, List, length, sym, ap, ◌∙◌, subst, inl, inr, arith}
 use Rattle.cs_gen.specs.Boundary.{HasFewSets, IsAcceptedBesideAll}
 use Rattle.cs_gen.specs.declared.files.Generated.{Generated}
@@ -18,11 +18,10 @@ use Rattle.cs_yacc.specs.Reading.Reading.{IsAccepted}
 use Rattle.cs_manifest.specs.declared.manifest.counts.Counts.{Counts}
 use Rattle.cs_manifest.specs.Manifest.Manifest.{IsManifest}
 use Rattle.cs_run.specs.Ending.Files.{IsSuiteText, choice_of}
-use Rattle.cs_run.specs.Ending.Summary.{HasCounts, IsManifestOf, Lengths, lengths_of, summary_line, summary_options}
-use Rattle.cs_run.proofs.OnEnding.OneSummary.{one_counts}
+use Rattle.cs_run.specs.Ending.Summary.{HasCounts, IsManifestOf, IsSummary, Lengths, lengths_of, summary_line, summary_options}
 use Rattle.cs_writing.specs.Writing.Writing.{CountsOfAll, HasNoCases}
 use Rattle.cs_run.specs.Writer.Suite.{IsSuite}
-use Rattle.cs_run.specs.Writer.Summary.{AreShort, HasSuite, IsOnlySummary, lengths}
+use Rattle.cs_run.specs.Writer.Summary.{AreShort, HasSuite, lengths}
 
 -- accepted files aren't refused
 pub no_refusal : (bytes more : List ℕ) (refusal : Refusal) → length bytes ≤ 1048576 → length more ≤ 1048576 → IsAccepted bytes → IsAcceptedBesideAll more → Refuses refusal (pair_contents bytes more) → ⊥
@@ -43,16 +42,7 @@ few_states pair bytes more of named few many = few pair.yacc pair.lex named of.3
 
 module _ (seed : ℕ) (pair : Pair) (of : IsPairOf pair.yacc pair.lex (yacc_text seed) lex_text) (named : yacc.IsFile pair.yacc)
     (few : ¬ HasManyStates pair.lex) (counts : Counts) (all : CountsOfAll (IsSuite pair summary_options) counts) (first : HasNoCases counts) (short : AreShort counts) where
-  -- a manifest of the number is one of the pair
-  of_pair : (text : List ℕ) → IsManifestOf seed text → IsSuite pair summary_options text
-  unfolding IsSuiteText
-  of_pair text is =
-      let one = yacc_files.one_file (yacc_text seed) pair.yacc is.0 of.2 is.2.2 in
-      let beside : IsLexFile lex_text pair.yacc is.1 = subst (λ (f : yacc.File). IsLexFile lex_text f is.1) (sym one) is.2.3 in
-      let same : pair.lex ≡ is.1 = lex_files.one_file lex_text pair.yacc pair.lex is.1 named of.3 beside in
-      let moved = subst (λ (s : lex.File). IsManifest (choice_of s summary_options) is.0 text) (sym same) is.4 in
-      subst (λ (f : yacc.File). IsManifest (choice_of pair.lex summary_options) f text) (sym one) moved
-
+  -- a manifest of the pair is one of the number
   of_number : (text : List ℕ) → IsSuite pair summary_options text → IsManifestOf seed text
   unfolding IsSuiteText
   of_number text is = (pair.yacc, pair.lex, of, few, is)
@@ -70,13 +60,8 @@ module _ (seed : ℕ) (pair : Pair) (of : IsPairOf pair.yacc pair.lex (yacc_text
     cases = first;
   }
 
-  pub only_summary : (text : List ℕ) → text ≡ summary_line seed (lengths_of seed) counts → HasSuite pair → IsOnlySummary seed text
-  only_summary text said some = record {
-    is = record { manifest = some.0; is_of = of_number some.0 some.1; counts = counts; has = counted some.0 some.1; said = said };
-    no_other = λ other is.
-        let same : is.counts ≡ counts = one_counts is.manifest is.counts counts is.has (counted is.manifest (of_pair is.manifest is.is_of)) in
-        is.said ∙ ap (λ (c : Counts). summary_line seed (lengths_of seed) c) same ∙ sym said;
-  }
+  pub a_summary : (text : List ℕ) → text ≡ summary_line seed (lengths_of seed) counts → HasSuite pair → IsSummary seed text
+  a_summary text said some = record { manifest = some.0; is_of = of_number some.0 some.1; counts = counts; has = counted some.0 some.1; said = said }
 
 -- the lengths of two texts
 abbrev sizes : List ℕ → List ℕ → Lengths
@@ -86,10 +71,10 @@ sizes one other = record { yacc = length one; lex = length other }
 pub files_summary : (seed : ℕ) (files : Generated) (pair : Pair) → files.yacc.items ≡ yacc_text seed → files.lex.items ≡ lex_text
     → IsPairOf pair.yacc pair.lex files.yacc.items files.lex.items → yacc.IsFile pair.yacc → HasFewSets files.lex.items
     → (counts : Counts) → CountsOfAll (IsSuite pair summary_options) counts → HasNoCases counts → AreShort counts → HasSuite pair
-    → (text : List ℕ) → text ≡ summary_line seed (lengths files) counts → IsOnlySummary seed text
+    → (text : List ℕ) → text ≡ summary_line seed (lengths files) counts → IsSummary seed text
 files_summary seed files pair is_yacc is_lex of named few counts all first short some text said =
     let moved : IsPairOf pair.yacc pair.lex (yacc_text seed) files.lex.items = subst (λ (b : List ℕ). IsPairOf pair.yacc pair.lex b files.lex.items) is_yacc of in
     let both : IsPairOf pair.yacc pair.lex (yacc_text seed) lex_text = subst (λ (b : List ℕ). IsPairOf pair.yacc pair.lex (yacc_text seed) b) is_lex moved in
     let same : lengths files ≡ lengths_of seed = ap (λ (b : List ℕ). sizes b files.lex.items) is_yacc ∙ ap (λ (b : List ℕ). sizes (yacc_text seed) b) is_lex in
-    only_summary seed pair both named (few_states pair files.yacc.items files.lex.items of named few) counts all first short text
+    a_summary seed pair both named (few_states pair files.yacc.items files.lex.items of named few) counts all first short text
     (said ∙ ap (λ (l : Lengths). summary_line seed l counts) same) some

@@ -1,5 +1,6 @@
 -- How the writing of a text ended, and what that is of a request's files.
 use Rattle.std.specs.Prelude.{◌≡◌, ◌⊎◌, ◌∷◌, [], ℕ, List}
+use Rattle.cs_deep.specs.Membership.{GrewByFront}
 use Rattle.cs_grammar.specs.Grammar.{PlainGrammar}
 use Rattle.cs_io.specs.Uses.{HasFailed, IsUnused, SinkUse}
 use Rattle.cs_io.specs.declared.halt.Halt.TheVariants.{Failed, Memory}
@@ -15,6 +16,7 @@ use Rattle.cs_run.specs.Input.Refusal.{HasManyStates}
 use Rattle.cs_run.specs.declared.ending.ending.Ending.{Ending}
 use Rattle.cs_run.specs.declared.ending.ending.Ending.TheVariants.{BadWord, Denied, Halted, NoFile, Refused, Written}
 use Rattle.cs_run.specs.Ending.Ending.{GrewAsAsked}
+use Rattle.cs_run.specs.Ending.Summary.{IsSummary}
 use Rattle.cs_run.specs.Ending.Files.{Accepted, HasFewChains, HasManyChains, IsBeyond, IsWithin, RefusesFor}
 use Rattle.cs_run.specs.Ending.Texts.{Denies, IsTextBy, IsTextOf, NoneDenies}
 use Rattle.cs_words.specs.declared.command.Command.{Command}
@@ -46,9 +48,17 @@ module _ (accepted : Type 0) (refused : Refusal → Type 0) (Is : List ℕ → T
 abbrev pub GrewByEach : (List ℕ → Type 0) → SinkUse → Type 0
 GrewByEach Is out = GrewByPart Is out.written.before out.written.after
 
+-- nothing, or a prefix of one such text
+abbrev pub GrewBySome : (List ℕ → Type 0) → SinkUse → Type 0
+GrewBySome Is out = GrewByFront Is out.written.before out.written.after
+
 -- there is a text in any case
 abbrev pub WritesSure : (List ℕ → Type 0) → Ending → SinkUse → Type 0
 WritesSure Is ending out = Writes (Unit {0}) (λ refusal. ⊥) Is (GrewByEach Is) NoneDenies ending out
+
+-- the summary of a number was written, and that ended so
+abbrev pub WritesSummary : ℕ → Ending → SinkUse → Type 0
+WritesSummary seed ending out = Writes (Unit {0}) (λ refusal. ⊥) (IsSummary seed) (GrewBySome (IsSummary seed)) NoneDenies ending out
 
 -- the automaton of a pair's lex file has too many states, and the refusal tells that
 abbrev pub HasTooManyStates : Pair → Refusal → Type 0

@@ -15,7 +15,7 @@ use Rattle.cs_scanner.specs.declared.scanning.scanner.Scanner.{Scanner}
 use Rattle.cs_scanner.specs.Scan.Compared.{scanning}
 use Rattle.cs_writing.specs.Plan.Plans.{CanRender}
 use Rattle.cs_texts.specs.declared.rendering.render_work.RenderWork.{RenderWork}
-use Rattle.cs_deep.specs.Membership.{GrewByFront, IsMemberText}
+use Rattle.cs_deep.specs.Membership.{IsMemberText}
 use Rattle.cs_grammar.specs.Grammar.{PlainGrammar}
 use Rattle.cs_io.specs.Uses.{SinkUse}
 use Rattle.cs_lexical.specs.Lines.{IsLexical}
@@ -27,7 +27,7 @@ use Rattle.cs_words.specs.declared.command.Command.TheVariants.{Check, Member, O
 use Rattle.cs_words.specs.declared.command.PairCommand.{PairCommand}
 use Rattle.cs_words.specs.declared.command.PairCommand.TheVariants as of_pair
 use Rattle.cs_words.specs.declared.options.Options.{Options}
-use Rattle.cs_run.specs.Command.Carrying.{GrewByEach, Writes, WritesByPair, WritesByText, WritesOfGrammar, WritesOfPair}
+use Rattle.cs_run.specs.Command.Carrying.{GrewByEach, GrewBySome, Writes, WritesByPair, WritesByText, WritesOfGrammar, WritesOfPair}
 use Rattle.cs_run.specs.Ending.Files.{scanning_of}
 use Rattle.cs_run.specs.Ending.Texts.{IsTextOfPair, NoneDenies}
 use Rattle.cs_scanner.specs.Scan.Scan.{Scanning}
@@ -41,7 +41,7 @@ WritesLexical pair ending out = WritesOfPair pair (IsLexical pair.yacc (scanning
 abbrev pub WritesTokens : PlainGrammar → List ℕ → Ending → SinkUse → Type 0
 WritesTokens g tokens ending out =
     Writes (length tokens ≤ 2000) (λ refusal. (refusal ≡ TextTokens (length tokens)) × (2000 < length tokens)) (IsMemberText g tokens)
-    (λ sink. GrewByFront (IsMemberText g tokens) sink.written.before sink.written.after) NoneDenies ending out
+    (GrewBySome (IsMemberText g tokens)) NoneDenies ending out
 
 -- whether the text is a sentence was written, and that ended so
 abbrev pub WritesMembership : PairAndText → Ending → SinkUse → Type 0

@@ -7,7 +7,7 @@ use Rattle.cs_io.specs.Asked.{GrewByPart}
 use Rattle.cs_io.specs.Uses.{DeskUse, SinkUse, HasFailed, IsUnused}
 use Rattle.cs_io.specs.declared.halt.Halt.TheVariants.{Failed, Memory}
 use Rattle.cs_words.specs.declared.command.Command.{Command}
-use Rattle.cs_words.specs.declared.command.Command.TheVariants.{Member}
+use Rattle.cs_words.specs.declared.command.Command.TheVariants.{Gen, Member}
 use Rattle.cs_words.specs.declared.command.Role.{Role}
 use Rattle.cs_words.specs.Requests.{PlainRequest, files_of}
 use Rattle.cs_run.specs.Input.Files.{Content, HaveContents}
@@ -33,22 +33,19 @@ WroteDenial asked desk out =
     × (out.written.after ≡ append_known out.written.before text)
 
 -- The output grew by a prefix of each such text. Of a list with several derivations `member` may write each, and the output grew
--- by nothing, or by a prefix of one that it may write.
+-- by nothing, or by a prefix of one that it may write. So it did for `gen`, of whose texts no law says that there is one.
 abbrev pub GrewAsAsked : Command → (List ℕ → Type 0) → SinkUse → Type 0
 GrewAsAsked Member Is out = GrewByFront Is out.written.before out.written.after
+GrewAsAsked Gen Is out = GrewByFront Is out.written.before out.written.after
 GrewAsAsked command Is out = GrewByPart Is out.written.before out.written.after
 
 -- by the texts that are asked for by these contents of the files
 abbrev pub GrewByFrontOf : PlainRequest → SinkUse → List Content → Type 0
 GrewByFrontOf request out contents = GrewAsAsked request.command (IsTextOf request contents) out
 
--- the files have contents by which it grew so
+-- the files have contents that are accepted, and by these it grew so
 abbrev pub WrotePart : Result PlainRequest ℕ → DeskUse → SinkUse → Type 0
-WrotePart asked desk out = IsOkAnd asked (λ request. HaveContents desk.files (files_of request) (GrewByFrontOf request out))
-
--- the same, and these contents are accepted
-abbrev pub WrotePartOfAccepted : Result PlainRequest ℕ → DeskUse → SinkUse → Type 0
-WrotePartOfAccepted asked desk out =
+WrotePart asked desk out =
     IsOkAnd asked (λ request. HaveContents desk.files (files_of request) (λ contents. Accepted request.command contents × GrewByFrontOf request out contents))
 
 -- What caused an ending, and what the output holds then, by what the words ask for and how desk and output were used.
@@ -58,8 +55,8 @@ Ends Denied asked desk out = WroteDenial asked desk out × (out.faults.after ≡
 Ends (Refused refusal) asked desk out = IsOkAnd asked (λ request. AreRefusedSo desk.files request refusal) × IsUnused out
 Ends (BadWord at) asked desk out = (asked ≡ Err at) × IsUnused out
 Ends (NoFile role) asked desk out = IsOkAnd asked (λ request. HasNoFileFor desk.files request desk.faults role) × IsUnused out
-Ends (Halted Failed) asked desk out = WrotePartOfAccepted asked desk out × HasFailed out.faults
-Ends (Halted Memory) asked desk out = IsUnused out ⊎ WrotePartOfAccepted asked desk out
+Ends (Halted Failed) asked desk out = WrotePart asked desk out × HasFailed out.faults
+Ends (Halted Memory) asked desk out = IsUnused out ⊎ WrotePart asked desk out
 
 -- want of memory is an ending of its own, and no refusal
 abbrev pub HasLine : Ending → Type 0

@@ -1,7 +1,7 @@
 -- The summary that `gen` writes.
 use Rattle.std.specs.Prelude.{◌≡◌, ◌<◌, ◌^◌, ◌++◌, ℕ, List, String, length, string_bytes}
 use Rattle.std.specs.declared.alloc.Global.{Global}
-use Rattle.cs_run.specs.Ending.Summary.{IsSummary, Lengths, summary_line, summary_options}
+use Rattle.cs_run.specs.Ending.Summary.{Lengths, summary_line, summary_options}
 use Rattle.cs_gen.specs.declared.files.Generated.{Generated}
 use Rattle.cs_run.specs.declared.input.judging.Pair.{Pair}
 use Rattle.cs_manifest.specs.declared.manifest.counts.Counts.{Counts}
@@ -9,11 +9,6 @@ use Rattle.cs_manifest.specs.Output.Words.{numbered_word}
 use Rattle.cs_run.specs.Writer.Suite.{IsSuite, IsSuiteBy}
 use Rattle.cs_scanner.specs.Scan.Scan.{Scanning}
 use Rattle.cs_yacc.specs.Reading.File.{File}
-
--- the text is the summary of the number, and no other text is
-pub record IsOnlySummary (seed : ℕ) (text : List ℕ) : Type 0 where
-  pub is : IsSummary seed text
-  pub no_other : (other : List ℕ) → IsSummary seed other → other ≡ text
 
 -- the pair has a manifest by the options of summaries
 abbrev pub HasSuite : Pair → Type 0

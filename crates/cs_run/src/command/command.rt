@@ -2,10 +2,9 @@
 
 ghost use Rattle.std.specs.Prelude.{◌≡◌, ◌≤◌, length};
 ghost use Rattle.cs_run.specs.Ending.Ending.{HasLine};
-ghost use Rattle.cs_run.specs.Ending.Summary.{IsSummary};
 ghost use Rattle.cs_run.specs.Input.Read.{HasTokensOfItsFile};
 ghost use Rattle.cs_io.specs.Uses.{desk_used, used};
-ghost use Rattle.cs_run.specs.Command.Carrying.{TakesGrammar, TakesPair, TakesThird, WritesByGrammar, WritesByPair, WritesByText, WritesOfPair, WritesSure};
+ghost use Rattle.cs_run.specs.Command.Carrying.{TakesGrammar, TakesPair, TakesThird, WritesByGrammar, WritesByPair, WritesByText, WritesOfPair, WritesSummary, WritesSure};
 ghost use Rattle.cs_run.specs.Command.Words.{AreBad, AskForNoFiles, KeepsPromisesTo, PerformsFor};
 ghost use Rattle.cs_words.specs.Words.{texts};
 ghost use Rattle.cs_run.specs.Writer.Suite.{IsRules, IsSuite};
@@ -199,8 +198,7 @@ fn summary<R: Threads + Sync, O: Sink, G: Gate + Sync>(
     seed: u64,
     out: &mut O,
 ) -> Ending
-    ensures writes { WritesSure (IsSummary seed) result
-        (used O.Sink out.old out.new) }
+    ensures writes { WritesSummary seed result (used O.Sink out.old out.new) }
     ensures told { HasLine result }
 {
     ended(write_summary(crew, alloc, seed, out))

@@ -4,11 +4,12 @@ ghost use Rattle.std.specs.Prelude.{IfOk, OnErr, OnOk, string_bytes};
 ghost use Rattle.cs_run.specs.Ending.Summary.{IsSummary, summary_options};
 ghost use Rattle.cs_run.specs.Input.Refusal.{HasManyStates};
 ghost use Rattle.cs_run.specs.Writer.Suite.{IsSuite, IsSuiteBy};
-ghost use Rattle.cs_run.specs.Writer.Summary.{AreShort, HasSuite, HasSuiteBy, HasNumberMore, IsLineOf, IsOnlySummary};
+ghost use Rattle.cs_run.specs.Writer.Summary.{AreShort, HasSuite, HasSuiteBy, HasNumberMore, IsLineOf};
 ghost use Rattle.cs_io.specs.declared.halt.Halt.TheVariants.{Failed};
 ghost use Rattle.cs_writing.specs.Writing.Writing.{CountsOfAll, HasNoCases};
 ghost use Rattle.cs_io.specs.Asked.{IsCalmForAll, MetFault, MetNone};
-ghost use Rattle.cs_io.specs.Asked.{Stopped, TookFront, TookOne};
+ghost use Rattle.cs_io.specs.Asked.{Stopped, TookOne};
+ghost use Rattle.cs_deep.specs.Membership.{TookSomeFront};
 ghost use Rattle.cs_scanner.specs.Scan.Compared.{scanning};
 
 use crate::input::{Pair, Stop, judge_pair};
@@ -34,7 +35,7 @@ pub fn write_summary<R: Threads + Sync, O: Sink, G: Gate + Sync>(
     out: &mut O,
 ) -> Result<(), Halt>
     ensures ok { OnOk result (TookOne O.Sink (IsSummary seed) out.old out.new) }
-    ensures part { OnErr result (TookFront O.Sink (IsSummary seed) out.old out.new) }
+    ensures part { OnErr result (TookSomeFront O.Sink (IsSummary seed) out.old out.new) }
     ensures no_fault { OnOk result (MetNone O.Sink out.old out.new) }
     ensures failed { Stopped Failed result → MetFault O.Sink out.old out.new }
     ensures room { IsCalmForAll O.Sink (IsSummary seed) out.old out.new }
@@ -50,7 +51,7 @@ fn summary<R: Threads + Sync, G: Gate + Sync>(
     alloc: Global,
     seed: u64,
 ) -> Result<String, AllocError>
-    ensures { IfOk result (λ line. IsOnlySummary seed (string_bytes line)) }
+    ensures { IfOk result (λ line. IsSummary seed (string_bytes line)) }
 {
     let files = make(alloc, seed)?;
     let pair = match judge_pair(alloc, &files.yacc, &files.lex) {
