@@ -465,8 +465,41 @@ def cut_failures(folder):
                 yield f"{words}, cut at byte {size}: status {status}, {len(written)} bytes, {said!r}"
 
 
+def negatives_of(folder, *options):
+    """The negatives of the suite of G1, each as its line without its number, its tokens and its text."""
+    status, written, _ = run(["suite", *G1, *options], folder, stdout=subprocess.PIPE, stderr=subprocess.PIPE)
+    lines = written.decode().split("\n")
+    places = [place for place, line in enumerate(lines) if line.startswith("negative ")]
+    found = [(lines[at].split(" ", 2)[2], lines[at + 1].split()[1:], lines[at + 2]) for at in places]
+    return found if status == 0 else None
+
+
+def poisoned_pairs(tokens, neighbours):
+    """The places of the framed list whose two marks are no neighbours."""
+    framed = ["<begin>", *tokens, "<end>"]
+    return [place for place, left in enumerate(framed[:-1]) if framed[place + 1] not in neighbours[left]]
+
+
+def kept_failures(folder):
+    """Of so many of each operator and left mark all negatives with one poisoned pair are kept; both formats keep the same."""
+    _, shared, _ = run(["suite", *G1, "--mutate=none"], folder, stdout=subprocess.PIPE, stderr=subprocess.PIPE)
+    closed = [line.split()[2:] for line in shared.decode().split("\n") if line.startswith("closed next ")]
+    neighbours = {words[0]: words[2:] for words in closed}
+    every = negatives_of(folder, "--bases=1000")
+    wanted = [negative for negative in every if len(poisoned_pairs(negative[1], neighbours)) == 1]
+    for form in ("--format=1", "--format=2"):
+        found = negatives_of(folder, "--bases=1000", "--first=1000", form)
+        if found != wanted:
+            yield f"{form}: {len(found or [])} kept negatives of {len(every)}, not {len(wanted)}"
+    options = ["--criteria=rule", "--mutate=delete", "--bases=2", "--first=1"]
+    edits = [negative[0] for negative in negatives_of(folder, *options, "--format=2")]
+    if edits != [line.split(" ", 2)[2] for line in KEPT.decode().split("\n") if line.startswith("negative ")]:
+        yield f"the kept deletes in the second format: {edits}"
+
+
 def failures(folder):
     yield from cut_failures(folder)
+    yield from kept_failures(folder)
     pipes = {"stdout": subprocess.PIPE, "stderr": subprocess.PIPE}
     for words, *wanted in ROWS:
         found = run(words, folder, **pipes)
