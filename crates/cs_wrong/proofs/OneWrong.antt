@@ -1,5 +1,5 @@
 -- A file has at most one text of `wrong`, where the lexemes and the rendering of tokens are one.
-use Rattle.std.proofs.Common.{◌≡◌, ◌+◌, ℕ, Bool, true, false, cond, suc, List, [], ◌∷◌, refl, sym, ap, ◌∙◌, subst, arith, Option}
+use Rattle.std.proofs.Common.{◌≡◌, ◌+◌, ℕ, Bool, true, false, cond, List, [], ◌∷◌, refl, sym, ap, ◌∙◌, subst, arith, Option}
 use Rattle.std.specs.Prelude.{All}
 use Rattle.std.specs.List.{AllZip}
 use Rattle.std.proofs.lemmas.List.Elements.{All-cons, All-nil}
@@ -13,7 +13,7 @@ use Rattle.cs_texts.specs.Rendering.Rendering.{Rendering}
 use Rattle.cs_wrong.proofs.Told.{no_sentence, one_told}
 use Rattle.cs_wrong.specs.Classes.{behind, is_again, is_large, is_long, is_nothing, is_sentence, is_wrong}
 use Rattle.cs_wrong.specs.Slips.{slips}
-use Rattle.cs_wrong.specs.Text.{AddsUp, AreEntriesOf, IsEntryOf, IsWrongText, SlipEntry, weighed_by, wrong_ones, wrong_text}
+use Rattle.cs_wrong.specs.Text.{AddsUp, AreEntriesOf, IsEntryOf, IsWrongText, SlipEntry, many_with, weighed_by, wrong_ones, wrong_text}
 use Rattle.cs_wrong.specs.declared.class.SlipClass.{SlipClass}
 use Rattle.cs_wrong.specs.declared.class.SlipClass.TheVariants.{Nothing, Large, Again, Pair, Long, Sentence, Outside}
 use Rattle.cs_choices.specs.declared.slips.Slips.{Slips}
@@ -58,20 +58,20 @@ module _ (texts : Option Texts) (lexemes : Option (List (Option (List ℕ)))) (o
 
 -- ---- the counts of the classes add up
 
-at : (class : SlipClass) (n a b c d e f a_more b_more c_more d_more e_more f_more : ℕ) → n ≡ a + b + c + d + e + f → a_more ≡ cond (is_nothing class) 1 0 + a → b_more ≡ cond (is_large class) 1 0 + b
-    → c_more ≡ cond (is_again class) 1 0 + c → d_more ≡ cond (is_long class) 1 0 + d → e_more ≡ cond (is_sentence class) 1 0 + e → f_more ≡ cond (is_wrong class) 1 0 + f
-    → suc n ≡ a_more + b_more + c_more + d_more + e_more + f_more
-at Nothing n a b c d e f am bm cm dm em fm sum p q r s t u = omega arith
-at Large n a b c d e f am bm cm dm em fm sum p q r s t u = omega arith
-at Again n a b c d e f am bm cm dm em fm sum p q r s t u = omega arith
-at (Pair left right place) n a b c d e f am bm cm dm em fm sum p q r s t u = omega arith
-at Long n a b c d e f am bm cm dm em fm sum p q r s t u = omega arith
-at Sentence n a b c d e f am bm cm dm em fm sum p q r s t u = omega arith
-at Outside n a b c d e f am bm cm dm em fm sum p q r s t u = omega arith
+-- each class is counted once
+one_count : (class : SlipClass) → cond (is_nothing class) 1 0 + cond (is_large class) 1 0 + cond (is_again class) 1 0 + cond (is_long class) 1 0 + cond (is_sentence class) 1 0 + cond (is_wrong class) 1 0 ≡ 1
+one_count Nothing = refl
+one_count Large = refl
+one_count Again = refl
+one_count (Pair left right place) = refl
+one_count Long = refl
+one_count Sentence = refl
+one_count Outside = refl
+
+many_more : (test : SlipClass → Bool) (e : SlipEntry) (rest : List SlipEntry) → many_with test (e ∷ rest) ≡ cond (test e.class) 1 0 + many_with test rest
+many_more test e rest = sum_by-cons (λ (x : SlipEntry). cond (test x.class) 1 0) e rest
 
 pub add_up : (entries : List SlipEntry) → AddsUp entries
 add_up [] = refl
 add_up (e ∷ rest) =
-    at e.class _ _ _ _ _ _ _ _ _ _ _ _ _ (add_up rest) (sum_by-cons (λ (x : SlipEntry). cond (is_nothing x.class) 1 0) e rest) (sum_by-cons (λ (x : SlipEntry). cond (is_large x.class) 1 0) e rest)
-    (sum_by-cons (λ (x : SlipEntry). cond (is_again x.class) 1 0) e rest) (sum_by-cons (λ (x : SlipEntry). cond (is_long x.class) 1 0) e rest)
-    (sum_by-cons (λ (x : SlipEntry). cond (is_sentence x.class) 1 0) e rest) (sum_by-cons (λ (x : SlipEntry). cond (is_wrong x.class) 1 0) e rest)
+    omega (arith, one_count e.class, add_up rest, many_more is_nothing e rest, many_more is_large e rest, many_more is_again e rest, many_more is_long e rest, many_more is_sentence e rest, many_more is_wrong e rest)
