@@ -1,9 +1,9 @@
 -- Rule numbers that are put in for leftmost nonterminals, one after another.
-use Rattle.std.proofs.Common.{◌≡◌, ℕ, ◌+◌, ◌-◌, ◌<◌, List, [], ◌∷◌, ◌++◌, map, take, drop, length, get_or, reverse, Option, Some, None, refl, sym, ap, ◌∙◌, subst, arith}
+use Rattle.std.proofs.Common.{◌≡◌, ℕ, ◌+◌, ◌<◌, List, [], ◌∷◌, ◌++◌, map, take, drop, length, get_or, reverse, Option, Some, None, refl, sym, ap, ◌∙◌, subst}
 use Rattle.std.proofs.lemmas.List.{take_more}
-use Rattle.std.proofs.lemmas.Option.{slice_get_within}
 use Rattle.std.specs.Global.{Vec}
 use Rattle.cs_grammar.proofs.Leading.{derives_more}
+use Rattle.cs_grammar.proofs.Measures.{IsNumberOf-rule}
 use Rattle.cs_grammar.proofs.OneAnswer.{midway, no_form, one_form, parted_at, same_form}
 use Rattle.cs_grammar.proofs.OneTree.{one_rule}
 use Rattle.cs_grammar.specs.Grammar.{IsNumberOf, IsRule, PlainGrammar, Production}
@@ -39,9 +39,6 @@ pub all_moved : (now : List Symbol) (tokens : List ℕ) (d : Vec ℕ) (p : Vec S
 all_moved now tokens d p None shape front = sym front ∙ shape
 all_moved now tokens d p (Some n) shape front = absurd (no_form d.items tokens n (reverse p.items) (sym front ∙ shape))
 
-pub number_of_rule : (g : PlainGrammar) (r : ℕ) (p : Production) → IsRule g r p → IsNumberOf (length g.rules) r
-number_of_rule g r p is = let within = slice_get_within g.rules (r - 1) p is.at in (is.above_zero, omega (arith, is.above_zero))
-
 module _ (g : PlainGrammar) (rules : List ℕ) (start : List Symbol) (can : CanRead g rules start) (i : ℕ) (now : List Symbol) (far : Derives g start (take i rules) now) (within : i < length rules) where
   pub stands : Stands g (get_or rules i 0) now
   stands =
@@ -68,7 +65,7 @@ module _ (g : PlainGrammar) (rules : List ℕ) (start : List Symbol) (can : CanR
 
   -- the rule is one of the grammar
   pub is_rule : IsNumberOf (length g.rules) (get_or rules i 0)
-  is_rule = number_of_rule g (get_or rules i 0) stands.rule stands.number
+  is_rule = IsNumberOf-rule g (get_or rules i 0) stands.rule stands.number
 
 -- ---- a hole that symbols are put into
 
