@@ -1,6 +1,6 @@
 -- What the items of the generated yacc file mean: no name is at fault, and no limit is passed.
 use Rattle.std.proofs.Common.{◌≡◌, ℕ, zero, suc, ◌+◌, ◌*◌, ◌≤◌, Bool, true, false, cond, not, ◌&&◌, ◌||◌, List, [], ◌∷◌, ◌++◌, length, map, refl, sym, ap, subst, ◌∙◌, arith, inl, inr, Option, Some, None}
-use Rattle.std.specs.Prelude.{Ok, filter, nat_lt}
+use Rattle.std.specs.Prelude.{Ok, nat_lt}
 use Rattle.std.specs.List.{All, AllByRecursion}
 use Rattle.std.proofs.lemmas.Bool.{false≢true, cases_lt}
 use Rattle.std.proofs.lemmas.Bool.Decides.{nat_tests}
@@ -12,8 +12,8 @@ use Rattle.cs_yacc.specs.declared.reading.error.YaccLimit.{YaccLimit}
 use Rattle.cs_yacc.specs.declared.reading.error.YaccLimit.TheVariants.{Tokens, Nonterminals, Rules, RightSide}
 use Rattle.cs_yacc.specs.declared.items.directive.Directive.TheVariants as directives
 use Rattle.cs_yacc.specs.Items.Items.{Item, mark, directive, name, colon, semicolon, bar, Placed, items_of}
-use Rattle.cs_yacc.specs.Reading.Meaning.{same_spelling, has_spelling, distinct, from_each, first_at, begins_with_colon, is_mark, behind_mark, is_start, behind_start, is_prec, is_prec_before, is_idle, with_meaning_behind, with_meaning, listed, declared_at, declared, error_spelling, declared_tokens, left_sides, body, bodies, SpelledRule, rules_of, rules_at, rules, is_kept, kept, nonterminals, used, is_in_use, spelled, tokens, file_with, is_token_on_left, is_undefined, first_undefined, name_fault, above, long_right, limit_passed, parts_of, outcome}
-use Rattle.cs_yacc.proofs.OnReading.Counts.{few_nonterminals, few_rules}
+use Rattle.cs_yacc.specs.Reading.Meaning.{same_spelling, has_spelling, from_each, first_at, begins_with_colon, is_mark, behind_mark, is_start, behind_start, is_prec, is_prec_before, is_idle, with_meaning_behind, with_meaning, listed, declared_at, declared, error_spelling, declared_tokens, left_sides, body, bodies, SpelledRule, rules_of, rules_at, rules, is_kept, kept, nonterminals, used, is_in_use, spelled, tokens, file_with, is_token_on_left, is_undefined, first_undefined, name_fault, above, long_right, limit_passed, parts_of, outcome}
+use Rattle.cs_yacc.proofs.OnReading.Counts.{few_in_use, few_nonterminals, few_rules}
 use Rattle.cs_yacc.proofs.OnReading.Gathering.{same_self, has_distinct}
 use Rattle.cs_gen.specs.declared.symbol.Symbol.{Symbol}
 use Rattle.cs_gen.specs.declared.symbol.Symbol.TheVariants.{Token, Nonterminal}
@@ -275,22 +275,6 @@ items_file ls h =
     let some : length all_tokens ≡ 24 = refl in
     omega (arith, some, items_body all_tokens (mark ∷ lines_items ls), items_lines ls h)
 
-filter_step : {X : Type 0} (b : Bool) (x : X) (ys : List X) (n : ℕ) → length ys ≤ n → length (cond b (x ∷ ys) ys) ≤ suc n
-filter_step true x ys n h = omega arith
-filter_step false x ys n h = omega arith
-
-filter_few : {X : Type 0} (p : X → Bool) (xs : List X) → length (filter p xs) ≤ length xs
-filter_few p [] = omega arith
-filter_few p (x ∷ xs) = filter_step (p x) x (filter p xs) (length xs) (filter_few p xs)
-
-distinct_few : (ws : List TokenName) → length (distinct ws) ≤ length ws
-distinct_few [] = omega arith
-distinct_few (w ∷ ws) = omega (arith, distinct_few ws, filter_few (λ v. not (same_spelling w v)) (distinct ws))
-
--- the tokens are no more than the words
-few_words : (used lefts : List TokenName) (items : List Item) → length (tokens used lefts items) ≤ length (spelled items)
-few_words used lefts items = omega (arith, distinct_few (filter (is_in_use used lefts) (spelled items)), filter_few (is_in_use used lefts) (spelled items))
-
 -- ---- right sides
 
 -- behind each colon and bar stand at most three words
@@ -382,7 +366,8 @@ pub no_limit : (ls : List Line) (ps : List Placed) → AreLines ls → length ls
 no_limit ls ps known many e =
     let is = file_items ls in
     let token_list = tokens (used (kept (items_of ps))) (nonterminals (items_of ps)) (items_of ps) in
-    let few_tokens : length token_list ≤ 512 = omega (arith, many, spelled_file ls known, ap (λ (x : List Item). length (spelled x)) e, few_words (used (kept (items_of ps))) (nonterminals (items_of ps)) (items_of ps)) in
+    let few : length token_list ≤ length (spelled (items_of ps)) = few_in_use (is_in_use (used (kept (items_of ps))) (nonterminals (items_of ps))) (spelled (items_of ps)) in
+    let few_tokens : length token_list ≤ 512 = omega (arith, many, spelled_file ls known, ap (λ (x : List Item). length (spelled x)) e, few) in
     let size : length (items_of ps) ≤ 1024 = omega (arith, many, items_file ls known, ap length e) in
     let short : All HasShort (kept (items_of ps)) = subst (λ (x : List Item). All HasShort (kept x)) (sym e) (All-filter is_kept HasShort (rules is) (short_rules is (short_file ls known))) in
     rw (
