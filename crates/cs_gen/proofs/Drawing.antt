@@ -82,10 +82,10 @@ five_behind front a b c d e =
     ∙ ap (λ (t : List ℕ). t ++ e) (append_assoc front ((a ++ b) ++ c) d) ∙ append_assoc front (((a ++ b) ++ c) ++ d) e
 
 -- a line is written part by part
-pub line-written : (left number token at : ℕ) (front named signed begun going whole : List ℕ) → token ≡ (one_of 24 number).what → at ≡ (one_of 24 number).behind → named ≡ front ++ name (Nonterminal left) → signed ≡ named ++ codes " :"
+pub line-written : (left number : ℕ) (front : List ℕ) {token at : ℕ} {named signed begun going whole : List ℕ} → token ≡ (one_of 24 number).what → at ≡ (one_of 24 number).behind → named ≡ front ++ name (Nonterminal left) → signed ≡ named ++ codes " :"
     → begun ≡ signed ++ names (first_body left token) → going ≡ begun ++ alternatives (bodies at).what → whole ≡ going ++ codes " ;\n" → whole ≡ front ++ line_text (line left number).what
 unfolding line
-line-written left number token at front named signed begun going whole t a n s b g w =
+line-written left number front t a n s b g w =
     w ∙ rw (g, b, s, n, t, a) (five_behind front (name (Nonterminal left)) (codes " :") (names (first_body left (one_of 24 number).what)) (alternatives (bodies (one_of 24 number).behind).what) (codes " ;\n"))
 
 pub line-behind : (left number at behind : ℕ) → at ≡ (one_of 24 number).behind → behind ≡ (bodies at).behind → behind ≡ (line left number).behind
