@@ -7,7 +7,7 @@ use Rattle.cs_grammar.proofs.Measures.{length-yield}
 use Rattle.cs_grammar.proofs.OneTree.{one_rule}
 use Rattle.cs_grammar.specs.Context.{Context, code_after, code_before, context_size, plug}
 use Rattle.cs_grammar.specs.Grammar.{PlainGrammar, Production}
-use Rattle.cs_grammar.specs.Tree.{AreTrees, Forest, Node, codes_of, size, sizes, yield}
+use Rattle.cs_grammar.specs.Tree.{AreTrees, Forest, Node, codes_of, sizes, yield}
 use Rattle.cs_grammar.specs.Weights.{IsMeasure, Measure, Weighed}
 use Rattle.cs_grammar.specs.declared.symbol.Symbol.{Symbol}
 use Rattle.cs_grammar.specs.declared.symbol.Symbol.TheVariants.{Nonterminal}
