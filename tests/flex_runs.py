@@ -150,6 +150,67 @@ ACTIONS = [
     ("{ yyless(1); }", "foreign"),
     ("{ yy_push_state(X); return A; }", "foreign"),
     ("return -1;", "foreign"),
+    # what C, C++ and Bison's C++ parsers tell, as their standards and manual have it
+    ("{ return (int) A; }", "token"),
+    ("return static_cast<int>(A);", "token"),
+    ("return (count(1, 2), A);", "token"),
+    ("{ if (x) return A; return ( A ); }", "token"),
+    ("return yy::parser::token::A;", "token"),
+    ("return yy::parser::make_A (f(yytext), loc);", "token"),
+    ("return make_A(yytext);", "foreign"),
+    ("return yy::parser::make_A(x) + 1;", "foreign"),
+    ("return (char) A;", "foreign"),
+    ("return x ? A : B;", "foreign"),
+    ("return check(A);", "foreign"),
+    ("return 'ab';", "foreign"),
+]
+# A file with macros, what is written of its actions, and what is said; by C's preprocessor.
+MACROS = """%{
+#define GIVE(x) do { count(x, ""); \
+  return (x); } while (0)
+#define KIND(x) (note(#x, 1), T_ ## x)
+#define AGAIN yyless(0)
+#ifdef X
+#define TRACE(x) say(x)
+#define MAYBE(x) return x
+#else
+#define TRACE(x)
+#define MAYBE(x)
+#endif
+#define BYTE yytext[0]
+%}
+%%
+"""
+WITH_MACROS = [
+    ("GIVE(A);", "/*@token A*/ GIVE(A);", ""),
+    ("{ GIVE (',') }", "/*@token ','*/ { GIVE (',') }", ""),
+    ("return KIND(B);", "/*@token T_B*/ return KIND(B);", ""),
+    ("AGAIN;", "/*@token not.a.token*/ AGAIN;", "kept, but in no text: a comment can say what its action gives: "),
+    ('TRACE("return");', 'TRACE("return");', ""),
+    ("MAYBE(A);", "/*@token not.a.token*/ MAYBE(A);", "kept, but in no text: a comment can say what its action gives: "),
+    ("{ if (x) GIVE(A); GIVE(B); }", "/*@token not.a.token*/ { if (x) GIVE(A); GIVE(B); }", "kept, but in no text: a comment "
+     "can say what its action gives, as /*@token B*/: "),
+    ("GIVE", "GIVE", ""),
+    ("return BYTE;", "/*@token not.a.token*/ return BYTE;", "kept, but in no text: "),
+    ("GIVE(BYTE);", "/*@token not.a.token*/ GIVE(BYTE);", "kept, but in no text: "),
+    # Casts of a byte give way to blanks.
+    ("{ return((int)yytext[0]); }", "{ return(     yytext[0]); }", ""),
+    ("return (int) (unsigned char) *yytext;", "return                       *yytext;", ""),
+]
+# A grammar, a scanner's rules, what is written of these, and which tokens no rule gives.
+WITH_GRAMMAR = [
+    (
+        "%define api.token.prefix {T_}\n%token A B \"b\" C\n%%\ns : A \"b\" | error C ;\n",
+        "a return T_A;\nb return yy::parser::make_B(loc);\nc return token::T_C;\n",
+        "a /*@token A*/ return T_A;\nb /*@token B*/ return yy::parser::make_B(loc);\nc /*@token C*/ return token::T_C;\n",
+        "",
+    ),
+    (
+        "%token A B C D\n%%\ns : A B C D '+' ;\n",
+        "a return A;\nb check(); /*@token B*/\nc ;\n",
+        "a return A;\nb check(); /*@token B*/\nc ;\n",
+        "from_flex: l.l: no rule gives these tokens, so sentences with them have no text: C, D\n",
+    ),
 ]
 
 
@@ -254,20 +315,47 @@ def action_rows(folder):
             yield f"{action}: the program has another lexeme than {lexeme}"
 
 
+def macro_rows(folder):
+    for action, wanted, told in WITH_MACROS:
+        status, out, said = rule_lines(folder, f"{MACROS}a {action}\n")
+        found = out.rpartition("%%\na ")[2]
+        if (status, found) != (0, wanted + "\n") or len(said) != bool(told) or told not in "".join(said):
+            yield f"{action}: {status}, {found!r}, {said}"
+
+
+def grammar_rows(folder):
+    """A grammar beside the scanner tells how its tokens are named there, and which of them no rule gives."""
+    for grammar, rules, wanted, told in WITH_GRAMMAR:
+        written(folder, "g.y", grammar)
+        written(folder, "l.l", f"%%\n{rules}")
+        status, out, said = tool(folder, "from_flex", "l.l", "g.y")
+        if (status, out.partition("%%\n")[2], said) != (0, wanted, told):
+            yield f"{grammar!r}: {status}, {out!r}, {said!r}"
+    written(folder, "g.y", "%%\ns : ? ;\n")
+    status, out, said = tool(folder, "from_flex", "l.l", "g.y")
+    if (status, out) != (1, "") or not said.startswith("from_flex: g.y:2:5: "):
+        yield f"a refused grammar: {status}, {out!r}, {said!r}"
+
+
 def bad_calls(folder):
     written(folder, "l.l", "%%\na ;\n")
-    for words, wanted in (([], 2), (["-i"], 2), (["a", "b"], 2), (["no.l"], 3)):
+    for words, wanted in (([], 2), (["-i"], 2), (["a", "b", "c"], 2), (["no.l"], 3), (["l.l", "no.y"], 3)):
         status, out, said = tool(folder, "from_flex", *words)
         if (status, out) != (wanted, "") or not said.startswith("from_flex: "):
             yield f"from_flex {words}: {status}, {said}"
     status, out, _ = tool(folder, "from_flex", "-i", "l.l")
     if status or not out.endswith("%%\n[Aa] ;\n"):
         yield f"from_flex -i: {status}, {out}"
+    for name in ("from_flex", "from_bison", "start_lex"):
+        for word in ("--help", "-h"):
+            status, out, said = tool(folder, name, word)
+            if (status, said) != (0, "") or not out.startswith(f"{name} "):
+                yield f"{name} {word}: {status}, {out!r}, {said!r}"
 
 
 def main():
     failed = []
-    for rows in (pattern_rows, match_rows, flex_rows, file_rows, action_rows, bad_calls):
+    for rows in (pattern_rows, match_rows, flex_rows, file_rows, action_rows, macro_rows, grammar_rows, bad_calls):
         with tempfile.TemporaryDirectory() as folder:
             failed += rows(folder)
     if not BUILT:

@@ -3,7 +3,7 @@
 import re
 
 import plain
-from bison import Refusal
+from bison import Refusal, tokens
 from bison_walk import Grammar
 
 NAME_BYTES = re.compile(rb"[A-Za-z0-9_.]")
@@ -65,3 +65,24 @@ def checked(text):
     if fault:
         raise Refusal(min(fault.at, len(text)), "no grammar file has this here: look whether bison takes the file")
     return written
+
+
+def in_use(text):
+    """The tokens of the kept rules, each once, as the plain grammar spells them."""
+    items = plain.read_items(checked(text))[0]
+    lefts = {item.text for item in plain.lefts(items)}
+    kept = (item for rule in plain.rules(items) if not rule.has_error for item in rule.body)
+    found = {}
+    for item in kept:
+        if item.text not in lefts:
+            found.setdefault(plain.literal_value(item.text) if item.kind == "literal" else item.text, item)
+    return list(found.values())
+
+
+def prefix(text):
+    """What stands before the names of tokens in the scanner, and not in the grammar: `%define api.token.prefix {..}`."""
+    listed = tokens(text)
+    for directive, name, value in zip(listed, listed[1:], listed[2:]):
+        if (directive.word, name.text) == ("%define", b"api.token.prefix") and value.kind in ("block", "string"):
+            return value.text[1:-1].strip()
+    return b""

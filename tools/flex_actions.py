@@ -1,6 +1,10 @@
 """Actions of lex rules: which of them the profile of docs/FORMATS.md understands, and marks for the others."""
 
 import re
+from typing import NamedTuple
+
+from flex_macros import without_text
+from plain import ITEM
 
 # A word of these makes an action foreign wherever it stands in it.
 FOREIGN_WORDS = {b"REJECT", b"yymore", b"yyless", b"unput", b"input", b"BEGIN", b"yyterminate"}
@@ -10,12 +14,28 @@ CALLS = re.compile(
 )
 # A mark of a token that no grammar has makes an action foreign.
 FOREIGN_MARK = b"/*@token not.a.token*/ "
-MARK = re.compile(rb"/\*@(?:skip|token[ \t]+\S+)\*/")
-NO_CODE = re.compile(rb"/\*.*?\*/|//[^\n]*|\"(?:\\.|[^\"\\\n])*\"", re.S)
+MARK = re.compile(rb"/\*@(?:skip|token[ \t]+(\S+))\*/")
 LITERAL = re.compile(rb"'(?:\\.|[^'\\\n])*'")
 WORD = re.compile(rb"[A-Za-z0-9_]+")
 GIVEN = rb"yytext\[0\]|\*yytext|[A-Za-z_][A-Za-z0-9_]*|'(?:\\.|[^'\\\n])+'"
-RETURN = re.compile(rb"\breturn\b\s*((?:\(\s*)*)(?:" + GIVEN + rb")\s*((?:\)\s*)*);")
+RETURN = re.compile(rb"\breturn\b\s*((?:\(\s*)*)(" + GIVEN + rb")\s*((?:\)\s*)*);")
+OWN_BYTE = re.compile(rb"yytext\s*\[\s*0\s*\]|\*\s*yytext")
+# Types of which a cast changes no token, and casts to them; one to a type of one byte changes no literal.
+TYPES = rb"(?:const|unsigned|signed|int|short|long|char|enum|(?:\w+::)*(?:yytokentype|token_type|token_kind_type|yytoken_kind_t))\b"
+CAST = re.compile(rb"\(\s*(?:" + TYPES + rb"\s*)+\)\s*(?=[\w('*:])|static_cast\s*<\s*(?:" + TYPES + rb"\s*)+>\s*(?=\()")
+# A name of C++'s, and Bison's own function that makes a token; without `::` it may be any function.
+QUALIFIED = re.compile(rb"(?:::\s*)?((?:[A-Za-z_]\w*\s*::\s*)*)([A-Za-z_]\w*)")
+MADE = re.compile(rb"(?:::\s*)?(?:[A-Za-z_]\w*\s*::\s*)+make_([A-Za-z_]\w*)\s*\(")
+
+
+class Gives(NamedTuple):
+    """What an action gives: `token` with its name or literal, `byte`, `skip`, or `unknown` with what it may give."""
+
+    kind: str
+    names: tuple = ()
+
+
+BYTE, SKIP, UNKNOWN = Gives("byte"), Gives("skip"), Gives("unknown")
 
 
 def mark_for(token):
@@ -23,20 +43,104 @@ def mark_for(token):
     return b" /*@token %s*/" % token if token in FOREIGN_WORDS or b"." in token else b""
 
 
-def calls(action):
-    """Whether an action without a mark changes what is scanned by a function that the profile doesn't know."""
-    words = WORD.findall(NO_CODE.sub(b" ", action))
-    return not MARK.search(action) and any(map(CALLS.fullmatch, words)) and not FOREIGN_WORDS & {*words}
-
-
-def is_understood(action):
-    """Whether it is told what an action gives: by a mark, by one `return` of a known form, or by none at all."""
-    code = NO_CODE.sub(b" ", action)
+def changing(code):
+    """The first word that makes code change what is scanned, or None."""
     words = WORD.findall(LITERAL.sub(b" ", code))
-    if MARK.search(action) or action.startswith(b"|"):
-        return True
-    if FOREIGN_WORDS & {*words} or any(map(CALLS.fullmatch, words)):
-        return False
+    return next((word for word in words if word in FOREIGN_WORDS or CALLS.fullmatch(word)), None)
+
+
+def plainly(action):
+    """What the profile reads of an action without a mark."""
+    code = without_text(action)
+    words = WORD.findall(LITERAL.sub(b" ", code))
+    if FOREIGN_WORDS & {*words}:
+        return UNKNOWN
+    if b"return" not in words:
+        return SKIP
     found = RETURN.search(code)
-    is_plain = found is not None and found[1].count(b"(") == found[2].count(b")")
-    return words.count(b"return") == 0 or (words.count(b"return") == 1 and is_plain)
+    if words.count(b"return") > 1 or not found or found[1].count(b"(") != found[3].count(b")"):
+        return UNKNOWN
+    return BYTE if OWN_BYTE.fullmatch(found[2]) else of_name(found[2])
+
+
+def of_name(name):
+    """What a name or a literal gives; one of several characters is none of yacc's."""
+    item = ITEM.fullmatch(name)
+    return Gives("token", (name,)) if item and item.lastgroup in ("name", "literal") else UNKNOWN
+
+
+def depths(code):
+    """For each byte how many parentheses are open before it."""
+    depth = 0
+    for at, byte in enumerate(LITERAL.sub(lambda found: b"'" * len(found[0]), code)):
+        depth -= byte == 0x29
+        yield at, byte, depth
+        depth += byte == 0x28
+
+
+def operand(code, at):
+    """What a `return` that ends there returns, or None where no `;` ends it."""
+    end = next((at + place for place, byte, depth in depths(code[at:]) if byte == 0x3B and depth == 0), None)
+    return None if end is None else code[at:end]
+
+
+def inner(value):
+    """What a value comes to: what stands in its parentheses, or behind its last comma. Itself where it has none."""
+    value = value.strip()
+    listed = [(at, byte) for at, byte, depth in depths(value) if depth == 0 and byte in b"(),"]
+    if [at for at, byte in listed] == [0, len(value) - 1] and value[:1] == b"(":
+        return value[1:-1].strip()
+    commas = [at for at, byte in listed if byte == 0x2C]
+    return value[commas[-1] + 1 :].strip() if commas else value
+
+
+def token_of(value, prefix):
+    """What is given where this value is returned. Names of tokens begin with the prefix in C, and not in the grammar."""
+    is_narrow = False
+    while True:
+        cast = CAST.match(value)
+        is_narrow |= cast is not None and b"char" in cast[0]
+        before, value = value, value[cast.end() :] if cast else inner(value)
+        if before == value:
+            break
+    if OWN_BYTE.fullmatch(value):
+        return BYTE
+    if LITERAL.fullmatch(value):
+        return of_name(value)
+    made, name = MADE.match(value), QUALIFIED.fullmatch(value)
+    if made and inner(value[made.end() - 1 :]) != value[made.end() - 1 :] and b"(" not in value[: made.end() - 1]:
+        return Gives("token", (made[1],)) if value.endswith(b")") else UNKNOWN
+    return Gives("token", (name[2].removeprefix(prefix),)) if name and not is_narrow else UNKNOWN
+
+
+def gives(action, macros, prefix):
+    """What an action of flex's gives, with the macros put in: that is known where each `return` gives the same."""
+    mark = MARK.search(action)
+    if mark:
+        return Gives("token", (mark[1],)) if mark[1] else SKIP
+    code = macros.spelled_out(action)
+    if changing(code):
+        return UNKNOWN
+    ends = [found.end() for found in re.finditer(rb"\breturn\b", LITERAL.sub(lambda found: b"'" * len(found[0]), code))]
+    values = [operand(code, end) for end in ends]
+    found = [UNKNOWN if value is None else token_of(value, prefix) for value in values]
+    if not found:
+        return SKIP
+    if len({*found}) == 1:
+        return found[0]
+    return Gives("unknown", tuple(dict.fromkeys(name for given in found for name in given.names)))
+
+
+def without_casts(action):
+    return CAST.sub(lambda found: b" " * len(found[0]), action)
+
+
+def written_plainly(action, given):
+    """An action of which the profile reads that it gives this; None where that isn't known or can't be written."""
+    if given.kind == "unknown":
+        return None
+    if MARK.search(action) or plainly(action) == given:
+        return action
+    if given.kind == "byte":
+        return without_casts(action) if plainly(without_casts(action)) == BYTE else None
+    return b"/*@skip*/ " + action if given == SKIP else b"/*@token %s*/ %s" % (given.names[0], action)
