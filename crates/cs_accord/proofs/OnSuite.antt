@@ -8,7 +8,9 @@ pub mod Sets
 pub mod Claims
 pub mod Head
 pub mod HeadTold
+pub mod Setting
 pub mod Telling
+pub mod Above
 pub mod Measures
 pub mod Entries
 pub mod Cases

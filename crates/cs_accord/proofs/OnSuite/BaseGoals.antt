@@ -4,23 +4,25 @@ use Rattle.std.specs.Prelude.{slice_get, cond, option_map, bytes_eq}
 use Rattle.std.specs.List.{AllByRecursion, AllZip, filter, enumerate_from}
 use Rattle.std.proofs.lemmas.Option.{slice_get-map, same_Some}
 use Rattle.cs_grammar.specs.Leftmost.{IsYield}
-use Rattle.cs_grammar.specs.Weights.{IsMeasure, Weighed}
 use Rattle.cs_goals.specs.declared.goal.Goal.{Goal}
+use Rattle.cs_mutate.specs.declared.negative.Negative.{Negative}
 use Rattle.cs_verdicts.specs.declared.positive.verdict.Verdict.{Verdict}
 use Rattle.cs_verdicts.specs.declared.positive.verdict.Verdict.TheVariants as verdict
 use Rattle.cs_verdicts.specs.declared.cases.cases.Named.{Named}
 use Rattle.cs_verdicts.specs.Positive.Verdict.{IsVerdict}
-use Rattle.cs_verdicts.specs.Cases.Cases.{PlainCases}
+use Rattle.cs_verdicts.specs.Cases.Cases.{PlainCases, no_cases}
 use Rattle.cs_manifest.specs.declared.manifest.verdict.SharedVerdict.{SharedVerdict}
 use Rattle.cs_manifest.specs.declared.manifest.verdict.SharedVerdict.TheVariants as shared
 use Rattle.cs_manifest.specs.Manifest.Lines as put
-use Rattle.cs_manifest.specs.Manifest.Manifest.{AreShared, AreTokensOf, GoalEntry, IsEntryOf, IsSharedVerdict, LexemeList, SharedEntry, Texts, bases, distinct, yields}
+use Rattle.cs_manifest.specs.Manifest.Manifest.{AreNegativesOf, AreShared, AreTokensOf, BaseEntry, BasesOf, GoalEntry, IsSharedVerdict, LexemeList, SharedEntry, Texts, bases, distinct, most_bases, negatives_of, yields}
 use Rattle.cs_manifest.proofs.OnManifest.Rendered.{few_tokens}
-use Rattle.cs_lines.specs.Lines.Line.{VerdictWords, Feasible}
+use Rattle.cs_lines.specs.Lines.Line.{Feasible}
 use Rattle.cs_check.specs.Passing.Entries.{IsNumbered as IsEntry}
 use Rattle.cs_accord.specs.Suite.{verdict_of}
 use Rattle.cs_accord.proofs.OnSuite.Entries.{fresh_codes, same_codes, own_numbered}
-use Rattle.cs_accord.proofs.OnSuite.Negatives.{IsBaseGoal}
+use Rattle.cs_accord.proofs.OnSuite.Measures.{is_measure}
+use Rattle.cs_accord.proofs.OnSuite.Negatives.{IsBaseGoal, IsKnownBase}
+use Rattle.cs_accord.proofs.OnSuite.Setting.{Setting, Body, IsBody, IsKnownEntry, measure, words_told}
 use Rattle.cs_accord.proofs.OnSuite.Telling.{still_numbered}
 
 -- ---- cases that come later leave those before them
@@ -32,8 +34,8 @@ grows : (old new : PlainCases) (goal : Goal) (v : Verdict) (sv : SharedVerdict) 
 grows old new goal (verdict.Feasible m derivation) sv h = at h.0.fresh refl
   where
     at : (so : Bool) → h.0.fresh ≡ so → Grows old new
-    at true is = (derivation ∷ [], fresh_codes old new goal derivation h.0 h.2 is)
-    at false is = ([], same_codes old new goal derivation h.0 h.2 is ∙ sym (append-nil old.codes))
+    at true is = (derivation ∷ [], fresh_codes h.2 is)
+    at false is = ([], same_codes h.2 is ∙ sym (append-nil old.codes))
 grows old new goal verdict.Infeasible sv h = ([], ap (λ (c : PlainCases). c.codes) h.1 ∙ sym (append-nil old.codes))
 grows old new goal verdict.Large sv h = ([], ap (λ (c : PlainCases). c.codes) h.1 ∙ sym (append-nil old.codes))
 
@@ -47,7 +49,7 @@ cased : (old new : PlainCases) (goal : Goal) (v : Verdict) (sv : SharedVerdict) 
     → (name : Named) × (sv ≡ shared.Feasible m name) × IsEntry new.codes name.case derivation
 cased old new goal v sv h m derivation is =
     let here = subst (λ (x : Verdict). IsSharedVerdict old goal x new sv) is h in
-    (here.0, here.1, own_numbered old new goal derivation here.0 here.2)
+    (here.0, here.1, own_numbered here.2)
 
 record AreCased (old new : PlainCases) (entries : List GoalEntry) (list : List SharedEntry) : Type 0 where
   grown : Grows old new
@@ -64,8 +66,8 @@ all_cased texts lexemes old (e ∷ entries) new list h =
     let first = grows old mid e.goal e.verdict s.verdict h.4.verdict in
     let rest = all_cased texts lexemes mid entries new h.2 h.5 in
     let here : IsCased new.codes e s = λ m derivation is.
-    let found = cased old mid e.goal e.verdict s.verdict h.4.verdict m derivation is in
-    (found.0, found.1, subst (λ (c : List (List ℕ)). IsEntry c found.0.case derivation) (sym rest.grown.1) (still_numbered mid.codes rest.grown.0 found.0.case derivation found.2)) in
+    let own = cased old mid e.goal e.verdict s.verdict h.4.verdict m derivation is in
+    (own.0, own.1, subst (λ (c : List (List ℕ)). IsEntry c own.0.case derivation) (sym rest.grown.1) (still_numbered mid.codes rest.grown.0 own.0.case derivation own.2)) in
     record {
       grown = (first.0 ++ rest.grown.0, rest.grown.1 ∙ ap (λ (c : List (List ℕ)). c ++ rest.grown.0) first.1 ∙ append_assoc old.codes first.0 rest.grown.0);
       each = subst (λ (l : List SharedEntry). AllZip (IsCased new.codes) (e ∷ entries) l) (sym h.3) (here, rest.each);
@@ -79,13 +81,10 @@ zip_get R (a ∷ xs) [] k x zip at = absurd zip
 zip_get R (a ∷ xs) (y ∷ ys) zero x zip at = (y, refl, subst (λ z. R z y) (same_Some a x at) zip.0)
 zip_get R (a ∷ xs) (y ∷ ys) (suc k) x zip at = zip_get R xs ys k x zip.1 at
 
--- the partners of a list by what they have
-partner_get : {A B : Type 0} (R : A → B → Type 0) (xs : List A) (ys : List B) (k : ℕ) (y : B) → AllZip R xs ys → slice_get ys k ≡ Some y → (x : A) × R x y
-partner_get R [] [] k y zip at = absurd cc
-partner_get R [] (b ∷ ys) k y zip at = absurd zip
-partner_get R (a ∷ xs) [] k y zip at = absurd zip
-partner_get R (a ∷ xs) (b ∷ ys) zero y zip at = (a, subst (λ z. R a z) (same_Some b y at) zip.0)
-partner_get R (a ∷ xs) (b ∷ ys) (suc k) y zip at = partner_get R xs ys k y zip.1 at
+all_get : {A : Type 0} (P : A → Type 0) (xs : List A) (k : ℕ) (x : A) → AllByRecursion P xs → slice_get xs k ≡ Some x → P x
+all_get P [] k x all at = absurd cc
+all_get P (y ∷ xs) zero x all at = subst P (same_Some y x at) all.0
+all_get P (y ∷ xs) (suc k) x all at = all_get P xs k x all.1 at
 
 feasible_is : (v : Verdict) → put.is_feasible v ≡ true → (m : ℕ) × (derivation : List ℕ) × (v ≡ verdict.Feasible m derivation)
 feasible_is (verdict.Feasible m derivation) e = (m, derivation, refl)
@@ -130,20 +129,19 @@ module _ {A B : Type 0} (P : B → Type 0) (Q : A → Type 0) (f : A → B) (tes
       at true is rest = (each x all.0 is, rest)
       at false is rest = rest
 
-module _ (of : Weighed) (is : IsMeasure of.weights) (own : Option Texts) (lexemes : Option LexemeList) (gs : List Goal) (entries : List GoalEntry) (are : AllZip (IsEntryOf of own lexemes) gs entries)
-    (codes : List (List ℕ)) (list : List SharedEntry) (each : AllZip (IsCased codes) entries list) where
-  abbrev Words : List VerdictWords
-  Words = map (λ (s : SharedEntry). verdict_of s.verdict) list
+module _ (s : Setting) (b : Body) (body : IsBody s b) where
+  abbrev IsGoalOf : ℕ × List ℕ → Type 0
+  IsGoalOf x = IsBaseGoal s.file.grammar (words_told b.list) b.cases.codes x.0 x.1
 
-  base_at : (i : ℕ) (e : GoalEntry) → slice_get entries i ≡ Some e → put.is_feasible e.verdict ≡ true → IsBaseGoal of.grammar Words codes (1 + i) e.tokens
+  base_at : (i : ℕ) (e : GoalEntry) → slice_get b.entries i ≡ Some e → put.is_feasible e.verdict ≡ true → IsGoalOf (1 + i, e.tokens)
   base_at i e at feasible =
       let v = feasible_is e.verdict feasible in
-      let found = zip_get (IsCased codes) entries list i e each at in
-      let s = found.0 in
-      let name = found.2 v.0 v.1 v.2 in
-      let partner = partner_get (IsEntryOf of own lexemes) gs entries i e are at in
+      let each = (all_cased (Some s.texts) (Some s.lexemes) (no_cases s.file.grammar) b.entries b.cases b.list body.shared).each in
+      let partner = zip_get (IsCased b.cases.codes) b.entries b.list i e each at in
+      let name = partner.2 v.0 v.1 v.2 in
+      let known = all_get (IsKnownEntry s) b.entries i e body.known at in
       let back : i ≡ 1 + i - 1 = omega arith in
-      let yield_is : IsYield of.grammar v.1 e.tokens = subst (λ (x : Verdict). AreTokensOf of.grammar x e.tokens) v.2 partner.1.tokens in
+      let yield_is : IsYield s.file.grammar v.1 e.tokens = subst (λ (x : Verdict). AreTokensOf s.file.grammar x e.tokens) v.2 known.tokens in
       record {
         size = v.0;
         case = name.0.case;
@@ -151,26 +149,39 @@ module _ (of : Weighed) (is : IsMeasure of.weights) (own : Option Texts) (lexeme
         rules = v.1;
         verdict = (
           omega arith,
-          subst (λ k. slice_get Words k ≡ Some (Feasible v.0 name.0.case name.0.first)) back
-              (slice_get-map (λ (x : SharedEntry). verdict_of x.verdict) list i ∙ ap (option_map (λ (x : SharedEntry). verdict_of x.verdict)) found.1 ∙ ap (λ (x : SharedVerdict). Some (verdict_of x)) name.1),
+          subst (λ k. slice_get (words_told b.list) k ≡ Some (Feasible v.0 name.0.case name.0.first)) back
+              (slice_get-map (λ (x : SharedEntry). verdict_of x.verdict) b.list i ∙ ap (option_map (λ (x : SharedEntry). verdict_of x.verdict)) partner.1 ∙ ap (λ (x : SharedVerdict). Some (verdict_of x)) name.1),
         );
         derived = name.2;
         yields = yield_is;
-        short = few_tokens of.weights is of.grammar partner.0 v.0 v.1 e.tokens (subst (λ (x : Verdict). IsVerdict of.weights of.grammar partner.0 x) v.2 partner.1.verdict) yield_is;
+        short =
+            few_tokens (measure s) (is_measure s.choice.weigh s.file.grammar.tokens s.lexemes) s.file.grammar e.goal v.0 v.1 e.tokens
+            (subst (λ (x : Verdict). IsVerdict (measure s) s.file.grammar e.goal x) v.2 known.verdict) yield_is;
       }
 
-  pub all_bases : (most : ℕ) → AllByRecursion (λ b. IsBaseGoal of.grammar Words codes b.0 b.1) (bases most entries)
-  all_bases most =
-      let P = λ (b : ℕ × List ℕ). IsBaseGoal of.grammar Words codes b.0 b.1 in
-      let Q = λ (p : ℕ × GoalEntry). put.is_feasible p.1.verdict ≡ true → IsBaseGoal of.grammar Words codes p.0 p.1.tokens in
-      all_take P most (distinct (yields entries))
-      (all_distinct P (yields entries)
-      (all_chosen P Q (λ (p : ℕ × GoalEntry). (p.0, p.1.tokens)) (λ (p : ℕ × GoalEntry). put.is_feasible p.1.verdict) (λ p known is. known is) (enumerate_from 1 entries)
-      (all_enumerated Q 1 entries (λ i e at is. base_at i e at is))))
+  goals_known : AllByRecursion IsGoalOf (bases (most_bases s.choice) b.entries)
+  goals_known =
+      let Q = λ (p : ℕ × GoalEntry). put.is_feasible p.1.verdict ≡ true → IsGoalOf (p.0, p.1.tokens) in
+      all_take IsGoalOf (most_bases s.choice) (distinct (yields b.entries))
+      (all_distinct IsGoalOf (yields b.entries)
+      (all_chosen IsGoalOf Q (λ (p : ℕ × GoalEntry). (p.0, p.1.tokens)) (λ (p : ℕ × GoalEntry). put.is_feasible p.1.verdict) (λ p known is. known is) (enumerate_from 1 b.entries)
+      (all_enumerated Q 1 b.entries base_at)))
 
--- the cases of a manifest
-pub bases_of : (of : Weighed) → IsMeasure of.weights → (own : Option Texts) (texts : Option Texts) (lexemes : Option LexemeList) (gs : List Goal) (entries : List GoalEntry) → AllZip (IsEntryOf of own lexemes) gs entries
-    → (old new : PlainCases) (list : List SharedEntry) → AreShared texts lexemes old entries new list → (most : ℕ)
-    → AllByRecursion (λ b. IsBaseGoal of.grammar (map (λ (s : SharedEntry). verdict_of s.verdict) list) new.codes b.0 b.1) (bases most entries)
-bases_of of is own texts lexemes gs entries are old new list shared_are most =
-    all_bases of is own lexemes gs entries are new.codes list (all_cased texts lexemes old entries new list shared_are).each most
+  bases_from : (before : List Negative) (list : List (ℕ × List ℕ)) → AllByRecursion IsGoalOf list → (mutants : List BaseEntry) → BasesOf s.file.grammar s.choice (Some s.lexemes) before list mutants
+      → AllByRecursion (IsKnownBase s (words_told b.list) b.cases.codes) mutants
+  bases_from before [] all mutants h = subst (AllByRecursion (IsKnownBase s (words_told b.list) b.cases.codes)) (sym h) tt
+  bases_from before (base ∷ list) all mutants h =
+      let first = h.0 in
+      let is = h.3 in
+      subst (AllByRecursion (IsKnownBase s (words_told b.list) b.cases.codes)) (sym h.2) (
+        record {
+          of = subst (λ (k : ℕ). IsGoalOf (k, first.tokens)) (sym is.goal) (subst (λ (w : List ℕ). IsGoalOf (base.0, w)) (sym is.tokens) all.0);
+          before = before;
+          made = subst (λ (w : List ℕ). AreNegativesOf s.file.grammar s.choice (Some s.lexemes) before w first.negatives) (sym is.tokens) is.negatives;
+        },
+        bases_from (before ++ negatives_of first.negatives) list all.1 h.1 h.4,
+      )
+
+  -- the bases are known by their goals
+  pub bases_known : AllByRecursion (IsKnownBase s (words_told b.list) b.cases.codes) b.mutants
+  bases_known = bases_from [] (bases (most_bases s.choice) b.entries) goals_known b.mutants body.bases_are

@@ -1,130 +1,99 @@
 -- The lines of all bases with their negatives lack each fault, and so does the end line behind them.
-use Rattle.std.proofs.Common.{◌≡◌, ℕ, ◌+◌, List, [], ◌∷◌, ◌++◌, Option, Some, length, length-append, refl, sym, ap, ◌∙◌, subst, append_assoc, append-nil, arith}
+use Rattle.std.proofs.Common.{◌≡◌, ℕ, ◌+◌, List, [], ◌∷◌, ◌++◌, length, length-append, refl, sym, ap, subst, arith}
 use Rattle.std.specs.Prelude.{sum_by}
-use Rattle.std.specs.List.{AllByRecursion, AllZip, Contains}
+use Rattle.std.specs.List.{AllByRecursion, Contains}
 use Rattle.std.proofs.lemmas.List.{length-map}
 use Rattle.std.proofs.lemmas.List.Sums.{sum_by-cons}
-use Rattle.cs_choices.specs.declared.weigh.Weigh.{Weigh}
-use Rattle.cs_mutate.specs.declared.negative.Negative.{Negative}
-use Rattle.cs_verdicts.specs.Closed.Closed.{AreClosedSets, ClosedSets}
-use Rattle.cs_yacc.specs.Reading.File.{File}
-use Rattle.cs_manifest.specs.Manifest.Manifest.{AreNegativesOf, BaseEntry, BasesOf, Choice, IsNegativeOf, LexemeList, NegativeEntry, Texts, negatives_of}
+use Rattle.cs_manifest.specs.Manifest.Manifest.{BaseEntry}
 use Rattle.cs_lines.specs.Words.Edits.{EditWords}
-use Rattle.cs_lines.specs.Lines.Line.{GoalWords, VerdictWords, Feasible, Counts, Line, BaseLine, EndLine}
+use Rattle.cs_lines.specs.Lines.Line.{VerdictWords, Feasible, GoalWords, Counts, Line, BaseLine, EndLine}
 use Rattle.cs_check.specs.Passing.Entries.{IsNumbered as IsEntry}
 use Rattle.cs_check.specs.Passing.Faults.{counted}
 use Rattle.cs_check.specs.Passing.Goals.{AreFinished}
 use Rattle.cs_check.specs.Passing.Places.{last_part, next_parts}
 use Rattle.cs_check.proofs.OnChecking.Kinds.{right_base, right_end}
-use Rattle.cs_accord.specs.Accord.{checked}
-use Rattle.cs_accord.specs.Named.{IsNamedFile}
 use Rattle.cs_accord.specs.Suite.{numbered, negative_lines, base_lines}
-use Rattle.cs_accord.proofs.OnSuite.Cases.{Below, may_come}
-use Rattle.cs_accord.proofs.OnSuite.Fine.{AreFine, fine_both}
-use Rattle.cs_accord.proofs.OnSuite.HeadTold.{below_more}
-use Rattle.cs_accord.proofs.OnSuite.Negatives.{IsBaseGoal, base_part, all_known, IsPast, edits_told, negatives_fine}
-use Rattle.cs_accord.proofs.OnSuite.Telling.{Told, of_base, of_end, told_base}
+use Rattle.cs_accord.proofs.OnSuite.Above.{IsAbove, IsBehind, may_come, behind_none, behind_line, behind_both}
+use Rattle.cs_accord.proofs.OnSuite.Negatives.{IsKnownBase, IsLastBase, IsPast, base_part, edits_told, known_negatives, negatives_fine}
+use Rattle.cs_accord.proofs.OnSuite.Setting.{Setting, IsSetting, by}
+use Rattle.cs_accord.proofs.OnSuite.Telling.{Content, of_base, of_end, is_last, with_line}
 
-module _ (file : File) (named : IsNamedFile file) (texts : Texts) (weigh : Weigh) (lexemes : LexemeList) (closed : ClosedSets) (are : AreClosedSets file.grammar closed)
-    (choice : Choice) (texts_are : choice.texts ≡ Some texts) (sizes : List ℕ) (codes : List (List ℕ)) (goals : List GoalWords) (words : List VerdictWords)
-    (finished : AreFinished file.grammar goals) where
-  -- lines that lack each fault, and how many bases and negatives are told behind them
-  pub record ArePast (above lines : List Line) (old_edits : List EditWords) (many : ℕ) : Type 0 where
-    pub shown : List Line
-    pub end : Contains (next_parts (last_part shown)) (last_part of_end)
-    pub fine : AreFine (checked file texts) above lines
-    pub below : Below file named texts weigh lexemes closed are (above ++ lines)
-    pub bases : List ℕ
-    pub edits : List EditWords
-    pub told : Told (above ++ lines) shown sizes codes goals words bases edits
-    pub many_edits : length edits ≡ length old_edits + many
+-- how many negatives the bases have
+abbrev pub all_negatives : List BaseEntry → ℕ
+all_negatives mutants = sum_by (λ (b : BaseEntry). length b.negatives) mutants
 
-  abbrev IsGoalOf : ℕ × List ℕ → Type 0
-  IsGoalOf b = IsBaseGoal file.grammar words codes b.0 b.1
+-- lines that lack each fault, behind which the end may come; this is told, but for where the last stands, the bases and so many negatives
+pub record ArePast (s : Setting) (above lines : List Line) (c : Content) (many : ℕ) : Type 0 where
+  pub shown : List Line
+  pub end : Contains (next_parts (last_part shown)) (last_part of_end)
+  pub bases : List ℕ
+  pub edits : List EditWords
+  pub many_edits : length edits ≡ length c.edits + many
+  pub behind : IsBehind s above lines (record c { shown = shown; bases = bases; edits = edits })
 
+module _ {s : Setting} (is : IsSetting s) where
   -- one base
-  module _ (above p : List Line) (bs : List ℕ) (es : List EditWords) (b : Below file named texts weigh lexemes closed are above) (t : Told above p sizes codes goals words bs es)
-      (may : Contains (next_parts (last_part p)) (last_part of_base)) (negatives number : ℕ) (negatives_are : negatives ≡ length es) (number_is : number ≡ length bs) where
-    base_fine : (goal : ℕ) (tokens : List ℕ) (entries : List NegativeEntry) (before : List Negative) → IsBaseGoal file.grammar words codes goal tokens
-        → AreNegativesOf file.grammar choice (Some lexemes) before tokens entries
-        → IsPast file named texts weigh lexemes closed are above (BaseLine (number + 1) goal ∷ numbered (negatives + 1) (negative_lines file (number + 1) tokens) entries) sizes codes goals words
-        (bs ++ goal ∷ []) (es ++ edits_told file entries)
-    base_fine goal tokens entries before of made =
-        let l : Line = BaseLine (number + 1) goal in
-        let one = above ++ l ∷ [] in
-        let b1 = below_more file weigh lexemes closed above l refl b in
-        let t1 = told_base above p sizes codes goals words bs es t (number + 1) goal in
-        let form = may_come file named texts weigh lexemes closed are above l p b t.part_is may (ap (λ n. n + 1) number_is ∙ ap (λ (x : List ℕ). length x + 1) (sym t.bases_are)) in
-        let right = right_base (checked file texts) above (number + 1) goal form (subst (AreFinished file.grammar) (sym t.goals_are) finished)
-        (of.case, (of.size, of.first, subst (λ (x : List VerdictWords). IsEntry x goal (Feasible of.size of.case of.first)) (sym t.words_are) of.verdict)) in
-        let long = length-append bs (goal ∷ []) in
-        let each = subst (λ (o : Option Texts). AllZip (IsNegativeOf o (Some lexemes) tokens) made.kept entries) texts_are made.each in
-        let rest = negatives_fine file named texts weigh lexemes closed are sizes codes goals words bs goal tokens of one of_base es b1 t1 base_part (negatives + 1) (number + 1)
-        (ap (λ n. n + 1) negatives_are) (omega (arith, long, number_is)) made.kept
-        (all_known file.grammar tokens choice.operators choice.first before made.negatives made.kept made.all made.are_kept) entries each in
-        let behind = numbered (negatives + 1) (negative_lines file (number + 1) tokens) entries in
-        let whole = append_assoc above (l ∷ []) behind in
-        record {
-          shown = rest.shown;
-          part = rest.part;
-          fine = (right, rest.fine);
-          below = subst (Below file named texts weigh lexemes closed are) whole rest.below;
-          told = subst (λ (x : List Line). Told x rest.shown sizes codes goals words (bs ++ goal ∷ []) (es ++ edits_told file entries)) whole rest.told;
-        }
+  base_fine : {above : List Line} {c : Content} → IsAbove s above c → Contains (next_parts (last_part c.shown)) (last_part of_base) → AreFinished s.file.grammar c.goals → (base : BaseEntry) → IsKnownBase s c.words c.codes base
+      → IsPast s above (BaseLine (length c.bases + 1) base.goal ∷ numbered (length c.edits + 1) (negative_lines s.file (length c.bases + 1) base.tokens) base.negatives)
+      (record c { bases = c.bases ++ base.goal ∷ []; edits = c.edits ++ edits_told s.file base.negatives })
+  base_fine {above} {c} a may finished base known =
+      let l : Line = BaseLine (length c.bases + 1) base.goal in
+      let of = known.of in
+      let right = right_base (by s) above (length c.bases + 1) base.goal (may_come a l may (ap (λ (x : List ℕ). length x + 1) (sym a.told.bases_are)))
+      (subst (λ (x : List GoalWords). AreFinished s.file.grammar x) (sym a.told.goals_are) finished)
+      (of.case, (of.size, of.first, subst (λ (x : List VerdictWords). IsEntry x base.goal (Feasible of.size of.case of.first)) (sym a.told.words_are) of.verdict)) in
+      let first = behind_line a l of_base refl refl right in
+      let bs = c.bases ++ base.goal ∷ [] in
+      let last : IsLastBase s.file.grammar c.words c.codes bs base.tokens = record { goal = base.goal; last = is_last c.bases base.goal; of = of } in
+      let rest = negatives_fine is base.negatives (known_negatives base.negatives is known.made) first.told base_part last in
+      let behind = λ (k : ℕ). numbered (length c.edits + 1) (negative_lines s.file k base.tokens) base.negatives in
+      let both = behind_both (l ∷ []) (behind (length bs)) first rest.behind in
+      record {
+        shown = rest.shown;
+        starts = rest.starts;
+        behind = subst (λ (k : ℕ). IsBehind s above (l ∷ behind k) (record c { shown = rest.shown; bases = bs; edits = c.edits ++ edits_told s.file base.negatives })) (length-append c.bases (base.goal ∷ [])) both;
+      }
 
-  pub bases_fine : (above p : List Line) (bs : List ℕ) (es : List EditWords) → Below file named texts weigh lexemes closed are above → Told above p sizes codes goals words bs es
-      → Contains (next_parts (last_part p)) (last_part of_base) → Contains (next_parts (last_part p)) (last_part of_end) → (negatives number : ℕ) → negatives ≡ length es → number ≡ length bs
-      → (before : List Negative) (list : List (ℕ × List ℕ)) → AllByRecursion IsGoalOf list → (mutants : List BaseEntry) → BasesOf file.grammar choice (Some lexemes) before list mutants
-      → ArePast above (base_lines file negatives number mutants) es (sum_by (λ (b : BaseEntry). length b.negatives) mutants)
-  bases_fine above p bs es b t may end negatives number negatives_are number_is before [] all mutants h =
-      subst (λ (l : List BaseEntry). ArePast above (base_lines file negatives number l) es (sum_by (λ (x : BaseEntry). length x.negatives) l)) (sym h)
-      (record {
-        shown = p;
-        end = end;
-        fine = tt;
-        below = subst (Below file named texts weigh lexemes closed are) (sym (append-nil above)) b;
-        bases = bs;
-        edits = es;
-        told = subst (λ (x : List Line). Told x p sizes codes goals words bs es) (sym (append-nil above)) t;
-        many_edits = omega arith;
-      })
-  bases_fine above p bs es b t may end negatives number negatives_are number_is before (base ∷ list) all mutants h =
-      let first = h.0 in
-      let rest = h.1 in
-      let is = h.3 in
-      let of : IsBaseGoal file.grammar words codes first.goal first.tokens =
-      subst (λ (k : ℕ). IsBaseGoal file.grammar words codes k first.tokens) (sym is.goal) (subst (λ (w : List ℕ). IsBaseGoal file.grammar words codes base.0 w) (sym is.tokens) all.0) in
-      let made = subst (λ (w : List ℕ). AreNegativesOf file.grammar choice (Some lexemes) before w first.negatives) (sym is.tokens) is.negatives in
-      let one = base_fine above p bs es b t may negatives number negatives_are number_is first.goal first.tokens first.negatives before of made in
-      let lines = BaseLine (number + 1) first.goal ∷ numbered (negatives + 1) (negative_lines file (number + 1) first.tokens) first.negatives in
-      let more_bases = length-append bs (first.goal ∷ []) in
-      let more_edits = length-append es (edits_told file first.negatives) in
-      let edits_many : length (edits_told file first.negatives) ≡ length first.negatives = length-map first.negatives _ in
-      let others = bases_fine (above ++ lines) one.shown (bs ++ first.goal ∷ []) (es ++ edits_told file first.negatives) one.below one.told one.part.base one.part.end
-      (negatives + length first.negatives) (number + 1) (omega (arith, negatives_are, more_edits, edits_many)) (omega (arith, number_is, more_bases))
-      (before ++ negatives_of first.negatives) list all.1 rest h.4 in
-      let behind = base_lines file (negatives + length first.negatives) (number + 1) rest in
-      let whole = append_assoc above lines behind in
-      let sum = sum_by-cons (λ (x : BaseEntry). length x.negatives) first rest in
-      let many = others.many_edits in
-      subst (λ (l : List BaseEntry). ArePast above (base_lines file negatives number l) es (sum_by (λ (x : BaseEntry). length x.negatives) l)) (sym h.2)
-      (record {
+  pub bases_fine : (mutants : List BaseEntry) {above : List Line} {c : Content} → AllByRecursion (IsKnownBase s c.words c.codes) mutants → IsAbove s above c → Contains (next_parts (last_part c.shown)) (last_part of_base)
+      → Contains (next_parts (last_part c.shown)) (last_part of_end) → AreFinished s.file.grammar c.goals → ArePast s above (base_lines s.file (length c.edits) (length c.bases) mutants) c (all_negatives mutants)
+  bases_fine [] {above} {c} known a may end finished = record {
+    shown = c.shown;
+    end = end;
+    bases = c.bases;
+    edits = c.edits;
+    many_edits = omega arith;
+    behind = behind_none a;
+  }
+  bases_fine (base ∷ rest) {above} {c} known a may end finished =
+      let bs = c.bases ++ base.goal ∷ [] in
+      let es = c.edits ++ edits_told s.file base.negatives in
+      let bases_are : length bs ≡ length c.bases + 1 = length-append c.bases (base.goal ∷ []) in
+      let edits_are : length es ≡ length c.edits + length base.negatives = (
+      let long = length-append c.edits (edits_told s.file base.negatives) in
+      let told : length (edits_told s.file base.negatives) ≡ length base.negatives = length-map base.negatives _ in
+      omega (arith, long, told)
+      ) in
+      let one = base_fine a may finished base known.0 in
+      let others = bases_fine rest known.1 one.behind.told one.starts.base one.starts.end finished in
+      let many : length others.edits ≡ length es + all_negatives rest = others.many_edits in
+      let sum = sum_by-cons (λ (x : BaseEntry). length x.negatives) base rest in
+      let lines = BaseLine (length c.bases + 1) base.goal ∷ numbered (length c.edits + 1) (negative_lines s.file (length c.bases + 1) base.tokens) base.negatives in
+      let all : Content = record c { shown = others.shown; bases = others.bases; edits = others.edits } in
+      let both = behind_both lines (base_lines s.file (length es) (length bs) rest) one.behind others.behind in
+      let both_bases = subst (λ (k : ℕ). IsBehind s above (lines ++ base_lines s.file (length es) k rest) all) bases_are both in
+      record {
         shown = others.shown;
         end = others.end;
-        fine = fine_both (checked file texts) above lines behind one.fine others.fine;
-        below = subst (Below file named texts weigh lexemes closed are) whole others.below;
         bases = others.bases;
         edits = others.edits;
-        told = subst (λ (x : List Line). Told x others.shown sizes codes goals words others.bases others.edits) whole others.told;
-        many_edits = omega (arith, many, more_edits, edits_many, sum);
-      })
+        many_edits = omega (arith, many, edits_are, sum);
+        behind = subst (λ (k : ℕ). IsBehind s above (lines ++ base_lines s.file k (length c.bases + 1) rest) all) edits_are both_bases;
+      }
 
-  -- ---- the end
+-- ---- the end
 
-  pub end_fine : (above p : List Line) (bs : List ℕ) (es : List EditWords) → Below file named texts weigh lexemes closed are above → Told above p sizes codes goals words bs es
-      → Contains (next_parts (last_part p)) (last_part of_end) → (counts : Counts) → counts ≡ counted above → AreFine (checked file texts) above (EndLine counts ∷ [])
-  end_fine above p bs es b t end counts is = (
-    right_end (checked file texts) above counts (may_come file named texts weigh lexemes closed are above (EndLine counts) p b t.part_is end tt)
-        (subst (AreFinished file.grammar) (sym t.goals_are) finished) is,
-    tt,
-  )
+pub end_fine : {s : Setting} {above : List Line} {c : Content} (a : IsAbove s above c) → Contains (next_parts (last_part c.shown)) (last_part of_end) → AreFinished s.file.grammar c.goals → (counts : Counts) → counts ≡ counted above
+    → IsBehind s above (EndLine counts ∷ []) (with_line c (EndLine counts) of_end)
+end_fine {s} {above} {c} a end finished counts is =
+    behind_line a (EndLine counts) of_end refl refl
+    (right_end (by s) above counts (may_come a (EndLine counts) end tt) (subst (λ (x : List GoalWords). AreFinished s.file.grammar x) (sym a.told.goals_are) finished) is)

@@ -1,8 +1,9 @@
 -- The lines of a case, and the line of a goal, lack each fault where they stand.
-use Rattle.std.proofs.Common.{◌≡◌, ℕ, ◌+◌, List, [], ◌∷◌, ◌++◌, Some, map, length, refl, sym, ap, ◌∙◌, subst, append_assoc, inr, arith}
+use Rattle.std.proofs.Common.{◌≡◌, ℕ, ◌+◌, List, [], ◌∷◌, ◌++◌, Some, map, length, refl, sym, ap, ◌∙◌, subst, arith}
 use Rattle.std.specs.Prelude.{slice_get}
 use Rattle.std.specs.List.{Contains}
 use Rattle.cs_grammar.specs.declared.symbol.Symbol.TheVariants.{Nonterminal}
+use Rattle.cs_grammar.specs.Grammar.{PlainGrammar}
 use Rattle.cs_grammar.specs.Leftmost.{IsYield}
 use Rattle.cs_grammar.specs.Tree.{Tree, IsTree}
 use Rattle.cs_choices.specs.declared.weigh.Weigh.{Weigh}
@@ -11,166 +12,127 @@ use Rattle.cs_goals.specs.Goal.{IsGoal}
 use Rattle.cs_goals.specs.Meets.{IsMeeting, Meets}
 use Rattle.cs_closed.proofs.OnClosed.Exact.{exact_exclude}
 use Rattle.cs_texts.specs.Rendering.Rendering.{Rendering, Text, NoLexeme, Differs, IsRendered}
-use Rattle.cs_verdicts.specs.Closed.Closed.{AreClosedSets, ClosedSets}
-use Rattle.cs_yacc.specs.Reading.File.{File}
-use Rattle.cs_manifest.specs.Manifest.Manifest.{LexemeList, Texts}
 use Rattle.cs_lines.specs.Words.Names.{token_of}
-use Rattle.cs_lines.specs.Words.Edits.{EditWords}
 use Rattle.cs_lines.specs.Lines.Line.{GoalWords, VerdictWords, Feasible, Infeasible, Large, Line, CaseLine, DeriveLine, TextLine, NoLexemeLine, NoScanLine, GoalLine}
 use Rattle.cs_check.specs.Passing.Above.{derivations, goals_in}
 use Rattle.cs_check.specs.Passing.Entries.{IsNumbered as IsEntry, IsCase, IsLast, IsMeasured, HasSize, IsShown, IsTold, AreTold as AreTokensTold, IsExcluded, measured}
+use Rattle.cs_check.specs.Passing.Faults.{HasCases, HasExcluded}
 use Rattle.cs_check.specs.Passing.Goals.{words_of, IsDue}
-use Rattle.cs_check.specs.Passing.Places.{part_of, last_part, next_parts, IsNumbered, MayCome}
+use Rattle.cs_check.specs.Passing.Places.{part_of, last_part, next_parts}
 use Rattle.cs_check.proofs.OnChecking.Kinds.{right_case, right_derive, right_tokens, right_text, right_no_lexeme, right_no_scan, right_goal}
-use Rattle.cs_check.proofs.OnChecking.HeadPlaces.{size_with}
-use Rattle.cs_accord.specs.Accord.{checked}
-use Rattle.cs_accord.specs.Named.{IsNamedFile}
 use Rattle.cs_accord.specs.Suite.{case_lines, text_line, tokens_line}
+use Rattle.cs_accord.proofs.OnSuite.Above.{IsAbove, IsBehind, may_come, behind_line, behind_both}
 use Rattle.cs_accord.proofs.OnSuite.Claims.{made, made_exact, made_claimed}
-use Rattle.cs_accord.proofs.OnSuite.Fine.{AreFine}
-use Rattle.cs_accord.proofs.OnSuite.HeadTold.{IsBelow, below_more}
-use Rattle.cs_accord.proofs.OnSuite.Telling.{of_case, of_derivation, of_tokens, of_text, of_goal, Told, told_case, told_derivation, told_tokens, told_text, told_no_lexeme, told_no_scan, told_goal, is_last}
+use Rattle.cs_accord.proofs.OnSuite.Setting.{Setting, IsSetting, by, told_measure}
+use Rattle.cs_accord.proofs.OnSuite.Telling.{Content, of_case, of_derivation, of_tokens, of_text, of_goal, is_last}
 
-module _ (file : File) (named : IsNamedFile file) (texts : Texts) (weigh : Weigh) (lexemes : LexemeList) (closed : ClosedSets) (are : AreClosedSets file.grammar closed) where
-  abbrev pub Below : List Line → Type 0
-  Below above = IsBelow file weigh lexemes closed above
-
-  -- a line may come behind a part
-  pub may_come : (above : List Line) (l : Line) (shown : List Line) → Below above → last_part above ≡ last_part shown → Contains (next_parts (last_part shown)) (part_of (last_part shown) l) → IsNumbered above l → MayCome file.grammar above l
-  may_come above l shown b is follows numbered =
-      inr (record {
-        behind = (let size = size_with file.grammar above b.has in let long = b.long in omega (arith, size, long));
-        part = subst (λ q. Contains (next_parts q) (part_of q l)) (sym is) follows;
-        numbered = numbered;
-      })
-
-  pub is_measured : (above : List Line) → Below above → IsMeasured above (measured weigh lexemes)
-  is_measured above b = (weigh, (omega arith, ap (λ (l : List Weigh). slice_get l 0) b.weighed), ap (measured weigh) (sym b.texts))
+module _ {s : Setting} {above : List Line} {c : Content} (a : IsAbove s above c) where
+  is_measured : IsMeasured above (told_measure s)
+  is_measured = (s.choice.weigh, (omega arith, ap (λ (l : List Weigh). slice_get l 0) a.below.weighed), ap (measured s.choice.weigh) (sym a.below.texts))
 
   -- the goal is excluded by the closed lines, where no tree meets it
-  pub excluded : (above : List Line) (goal : Goal) → Below above → IsGoal file.grammar goal → ((t : Tree) → IsTree file.grammar (Nonterminal file.grammar.start) t → Meets goal t → ⊥) → IsExcluded file above goal
-  excluded above goal b is none = (
-    b.has,
-    made file named closed are,
-    made_claimed file named closed are above b.told,
-    exact_exclude file.grammar (made file named closed are) (made_exact file named closed are) goal is none,
-  )
+  excluded : IsSetting s → (goal : Goal) → IsGoal s.file.grammar goal → ((t : Tree) → IsTree s.file.grammar (Nonterminal s.file.grammar.start) t → Meets goal t → ⊥) → IsExcluded s.file above goal
+  excluded is goal is_goal none =
+      let sets = made s.file is.named s.closed is.closed in (
+        a.below.has,
+        sets,
+        made_claimed s.file is.named s.closed is.closed above a.below.told,
+        exact_exclude s.file.grammar sets (made_exact s.file is.named s.closed is.closed) goal is_goal none,
+      )
 
-  -- ---- a text line
-
-  -- what lines tell stays, but for the part
-  pub record IsBehindText (above : List Line) (l : Line) (shown : List Line) (sizes : List ℕ) (codes : List (List ℕ)) (goals : List GoalWords) (words : List VerdictWords) (bases : List ℕ) (edits : List EditWords) : Type 0 where
-    pub fine : AreFine (checked file texts) above (l ∷ [])
-    pub below : Below (above ++ l ∷ [])
-    pub told : Told (above ++ l ∷ []) shown sizes codes goals words bases edits
-
-  module _ (above p q : List Line) (sizes : List ℕ) (codes : List (List ℕ)) (goals : List GoalWords) (words : List VerdictWords) (bases : List ℕ) (made_edits : List EditWords)
-      (b : Below above) (t : Told above p sizes codes goals words bases made_edits) (tokens : List ℕ)
-      (is_text : part_of (last_part p) (TextLine []) ≡ last_part q)
-      (follows : Contains (next_parts (last_part p)) (part_of (last_part p) (TextLine []))) (are_told : AreTokensTold file above tokens) where
-    pub text_fine : (rendered : Rendering) → IsRendered texts.scanning lexemes texts.separator tokens rendered → IsBehindText above (text_line file rendered) q sizes codes goals words bases made_edits
-    text_fine (Text text) is =
-        let l : Line = TextLine text in
-        record {
-          fine = (right_text (checked file texts) above text (may_come above l p b t.part_is follows tt) (tokens, are_told, is.1), tt);
-          below = below_more file weigh lexemes closed above l refl b;
-          told = told_text above p sizes codes goals words bases made_edits t text q is_text;
-        }
+  -- what came of rendering tokens of which the line above tells
+  module _ (shown : List Line) (is_text : part_of (last_part c.shown) (TextLine []) ≡ last_part shown) (follows : Contains (next_parts (last_part c.shown)) (part_of (last_part c.shown) (TextLine []))) (tokens : List ℕ) (are_told : AreTokensTold s.file above tokens) where
+    pub text_fine : (rendered : Rendering) → IsRendered s.texts.scanning s.lexemes s.texts.separator tokens rendered → IsBehind s above (text_line s.file rendered ∷ []) (record c { shown = shown })
+    text_fine (Text text) is = behind_line a (TextLine text) shown refl is_text (right_text (by s) above text (may_come a (TextLine text) follows tt) (tokens, are_told, is.1))
     text_fine (NoLexeme token) is =
-        let l : Line = NoLexemeLine (token_of file token) in
-        record {
-          fine = (right_no_lexeme (checked file texts) above (token_of file token) (may_come above l p b t.part_is follows tt), tt);
-          below = below_more file weigh lexemes closed above l refl b;
-          told = told_no_lexeme above p sizes codes goals words bases made_edits t (token_of file token) q is_text;
-        }
-    text_fine (Differs after) is =
-        let l : Line = NoScanLine after in
-        record {
-          fine = (right_no_scan (checked file texts) above after (may_come above l p b t.part_is follows tt), tt);
-          below = below_more file weigh lexemes closed above l refl b;
-          told = told_no_scan above p sizes codes goals words bases made_edits t after q is_text;
-        }
+        let name = token_of s.file token in behind_line a (NoLexemeLine name) shown refl is_text (right_no_lexeme (by s) above name (may_come a (NoLexemeLine name) follows tt))
+    text_fine (Differs after) is = behind_line a (NoScanLine after) shown refl is_text (right_no_scan (by s) above after (may_come a (NoScanLine after) follows tt))
 
-  case_told : (lines : List Line) (codes : List (List ℕ)) (rules tokens : List ℕ) → derivations lines ≡ codes ++ rules ∷ [] → IsYield file.grammar rules tokens → IsCase file.grammar lines tokens
-  case_told lines codes rules tokens e yields = (rules, subst (λ (l : List (List ℕ)). IsLast l rules) (sym e) (is_last codes rules), yields)
+case_told : (lines : List Line) {g : PlainGrammar} {tokens : List ℕ} (codes : List (List ℕ)) (rules : List ℕ) → derivations lines ≡ codes ++ rules ∷ [] → IsYield g rules tokens → IsCase g lines tokens
+case_told lines codes rules e yields = (rules, subst (λ (l : List (List ℕ)). IsLast l rules) (sym e) (is_last codes rules), yields)
 
-  -- ---- a case
+-- ---- a case
 
-  -- the lines lack each fault, and tell this
-  pub record IsBehind (above lines shown : List Line) (sizes : List ℕ) (codes : List (List ℕ)) (goals : List GoalWords) (words : List VerdictWords) : Type 0 where
-    pub fine : AreFine (checked file texts) above lines
-    pub below : Below (above ++ lines)
-    pub told : Told (above ++ lines) shown sizes codes goals words [] []
+-- a case: the size of its derivation, the tokens, and what came of their rendering
+pub record Case : Type 0 where
+  pub size : ℕ
+  pub rules : List ℕ
+  pub tokens : List ℕ
+  pub rendered : Rendering
 
-  four : (above : List Line) (k l m n : Line) → (((above ++ k ∷ []) ++ l ∷ []) ++ m ∷ []) ++ n ∷ [] ≡ above ++ k ∷ l ∷ m ∷ n ∷ []
-  four above k l m n = simp (append_assoc) refl
+pub record IsCaseOf (s : Setting) (k : Case) : Type 0 where
+  pub has : HasSize s.file.grammar (told_measure s) k.rules k.size
+  pub yields : IsYield s.file.grammar k.rules k.tokens
+  pub text : IsRendered s.texts.scanning s.lexemes s.texts.separator k.tokens k.rendered
 
-  module _ (above p : List Line) (sizes : List ℕ) (codes : List (List ℕ)) (goals : List GoalWords) (words : List VerdictWords)
-      (b : Below above) (t : Told above p sizes codes goals words [] []) where
-    pub case_fine : (number size : ℕ) (rules tokens : List ℕ) (rendered : Rendering) → Contains (next_parts (last_part p)) (last_part of_case) → number ≡ length sizes + 1 → HasSize file.grammar (measured weigh lexemes) rules size
-        → IsYield file.grammar rules tokens → IsRendered texts.scanning lexemes texts.separator tokens rendered
-        → IsBehind above (case_lines file number size rules tokens (Some rendered)) of_text (sizes ++ size ∷ []) (codes ++ rules ∷ []) goals words
-    case_fine number size rules tokens rendered follows numbered has yields is =
-        let first : Line = CaseLine number size in
-        let second : Line = DeriveLine rules in
-        let third = tokens_line file tokens in
-        let one = above ++ first ∷ [] in
-        let two = one ++ second ∷ [] in
-        let three = two ++ third ∷ [] in
-        let b1 = below_more file weigh lexemes closed above first refl b in
-        let b2 = below_more file weigh lexemes closed one second refl b1 in
-        let b3 = below_more file weigh lexemes closed two third refl b2 in
-        let t1 = told_case above p sizes codes goals words [] [] t number size in
-        let t2 = told_derivation one of_case (sizes ++ size ∷ []) codes goals words [] [] t1 rules in
-        let t3 = told_tokens two of_derivation (sizes ++ size ∷ []) (codes ++ rules ∷ []) goals words [] [] t2 (map (token_of file) tokens) of_tokens refl in
-        let told_two : AreTokensTold file two tokens = subst (λ q. IsTold file two q tokens) (sym t2.part_is) (case_told two codes rules tokens t2.codes_are yields) in
-        let told_three : AreTokensTold file three tokens = subst (λ q. IsTold file three q tokens) (sym t3.part_is) (case_told three codes rules tokens t3.codes_are yields) in
-        let last = text_fine three of_tokens of_text (sizes ++ size ∷ []) (codes ++ rules ∷ []) goals words [] [] b3 t3 tokens refl (0, omega arith, refl) told_three rendered is in
-        let right_first = right_case (checked file texts) above number size (may_come above first p b t.part_is follows (numbered ∙ ap (λ (l : List ℕ). length l + 1) (sym t.sizes_are))) in
-        let right_second = right_derive (checked file texts) one rules (may_come one second of_case b1 t1.part_is (0, omega arith, refl) tt) (has.tree, has.is_tree, has.code)
-        (measured weigh lexemes, size, is_measured one b1, subst (λ (l : List ℕ). IsLast l size) (sym t1.sizes_are) (is_last sizes size), has) in
-        let right_third = right_tokens (checked file texts) two (map (token_of file) tokens) (may_come two third of_derivation b2 t2.part_is (0, omega arith, refl) tt) (tokens, told_two, refl) in
-        let whole = four above first second third (text_line file rendered) in
-        record {
-          fine = (right_first, (right_second, (right_third, last.fine)));
-          below = subst Below whole last.below;
-          told = subst (λ (l : List Line). Told l of_text (sizes ++ size ∷ []) (codes ++ rules ∷ []) goals words [] []) whole last.told;
-        }
+abbrev pub with_case : Content → Case → Content
+with_case c k = record c { shown = of_text; sizes = c.sizes ++ k.size ∷ []; codes = c.codes ++ k.rules ∷ [] }
 
-    -- ---- a goal
+module _ {s : Setting} {above : List Line} {c : Content} (a : IsAbove s above c) where
+  pub case_fine : (number : ℕ) (k : Case) → Contains (next_parts (last_part c.shown)) (last_part of_case) → number ≡ length c.sizes + 1 → IsCaseOf s k
+      → IsBehind s above (case_lines s.file number k.size k.rules k.tokens (Some k.rendered)) (with_case c k)
+  case_fine number k follows numbered is =
+      let first : Line = CaseLine number k.size in
+      let second : Line = DeriveLine k.rules in
+      let third = tokens_line s.file k.tokens in
+      let last = text_line s.file k.rendered in
+      let one = above ++ first ∷ [] in
+      let two = one ++ second ∷ [] in
+      let three = two ++ third ∷ [] in
+      let b1 = behind_line a first of_case refl refl (right_case (by s) above number k.size (may_come a first follows (numbered ∙ ap (λ (l : List ℕ). length l + 1) (sym a.told.sizes_are)))) in
+      let t1 = b1.told.told in
+      let b2 = behind_line b1.told second of_derivation refl refl
+      (right_derive (by s) one k.rules (may_come b1.told second (0, omega arith, refl) tt) (is.has.tree, is.has.is_tree, is.has.code)
+      (told_measure s, k.size, is_measured b1.told, subst (λ (l : List ℕ). IsLast l k.size) (sym t1.sizes_are) (is_last c.sizes k.size), is.has)) in
+      let t2 = b2.told.told in
+      let told_two : AreTokensTold s.file two k.tokens = subst (λ q. IsTold s.file two q k.tokens) (sym t2.part_is) (case_told two c.codes k.rules t2.codes_are is.yields) in
+      let b3 = behind_line b2.told third of_tokens refl refl (right_tokens (by s) two (map (token_of s.file) k.tokens) (may_come b2.told third (0, omega arith, refl) tt) (k.tokens, told_two, refl)) in
+      let t3 = b3.told.told in
+      let told_three : AreTokensTold s.file three k.tokens = subst (λ q. IsTold s.file three q k.tokens) (sym t3.part_is) (case_told three c.codes k.rules t3.codes_are is.yields) in
+      let b4 = text_fine b3.told of_text refl (0, omega arith, refl) k.tokens told_three k.rendered is.text in
+      behind_both (first ∷ []) (second ∷ third ∷ last ∷ []) b1 (behind_both (second ∷ []) (third ∷ last ∷ []) b2 (behind_both (third ∷ []) (last ∷ []) b3 b4))
 
-    module _ (n : ℕ) (goal : Goal) (follows : Contains (next_parts (last_part p)) (last_part of_goal)) (numbered : n ≡ length goals + 1) (due : IsDue file goals (words_of file goal) goal) where
-      goal_form : (verdict : VerdictWords) → MayCome file.grammar above (GoalLine n (words_of file goal) verdict)
-      goal_form verdict =
-          may_come above (GoalLine n (words_of file goal) verdict) p b t.part_is follows (numbered ∙ ap (λ (l : List GoalWords). length l + 1) (sym t.goals_are))
+-- ---- a goal
 
-      goal_due : IsDue file (goals_in above) (words_of file goal) goal
-      goal_due = subst (λ (l : List GoalWords). IsDue file l (words_of file goal) goal) (sym t.goals_are) due
+-- the goal may come, and is due
+pub record IsNext (s : Setting) (c : Content) (goal : Goal) : Type 0 where
+  pub follows : Contains (next_parts (last_part c.shown)) (last_part of_goal)
+  pub due : IsDue s.file c.goals (words_of s.file goal) goal
 
-      behind_goal : (verdict : VerdictWords) → AreFine (checked file texts) above (GoalLine n (words_of file goal) verdict ∷ [])
-          → IsBehind above (GoalLine n (words_of file goal) verdict ∷ []) of_goal sizes codes (goals ++ words_of file goal ∷ []) (words ++ verdict ∷ [])
-      behind_goal verdict fine = record {
-        fine = fine;
-        below = below_more file weigh lexemes closed above (GoalLine n (words_of file goal) verdict) refl b;
-        told = told_goal above p sizes codes goals words [] [] t n (words_of file goal) verdict;
-      }
+-- the case has the size, and it and the first meet the goal
+pub record AreMeeting (g : PlainGrammar) (c : Content) (goal : Goal) (size case first : ℕ) : Type 0 where
+  pub sized : IsEntry c.sizes case size
+  pub met : (rules : List ℕ) × IsEntry c.codes case rules × IsMeeting g goal rules
+  pub met_first : (rules : List ℕ) × IsEntry c.codes first rules × IsMeeting g goal rules
 
-      pub feasible_fine : (size case first : ℕ) → IsEntry sizes case size → ((rules : List ℕ) × IsEntry codes case rules × IsMeeting file.grammar goal rules) → ((rules : List ℕ) × IsEntry codes first rules × IsMeeting file.grammar goal rules)
-          → IsBehind above (GoalLine n (words_of file goal) (Feasible size case first) ∷ []) of_goal sizes codes (goals ++ words_of file goal ∷ []) (words ++ Feasible size case first ∷ [])
-      feasible_fine size case first sized met met_first =
-          let shown : IsShown file.grammar above goal size case first = record {
-            sized = subst (λ (l : List ℕ). IsEntry l case size) (sym t.sizes_are) sized;
-            met = (met.0, subst (λ (l : List (List ℕ)). IsEntry l case met.0) (sym t.codes_are) met.1, met.2);
-            met_first = (met_first.0, subst (λ (l : List (List ℕ)). IsEntry l first met_first.0) (sym t.codes_are) met_first.1, met_first.2);
-          } in
-          behind_goal (Feasible size case first)
-          (right_goal (checked file texts) above n (words_of file goal) (Feasible size case first) (goal_form (Feasible size case first)) (goal, goal_due, shown) tt, tt)
+abbrev pub with_goal : Content → GoalWords → VerdictWords → Content
+with_goal c goal verdict = record c { shown = of_goal; goals = c.goals ++ goal ∷ []; words = c.words ++ verdict ∷ [] }
 
-      pub infeasible_fine : IsGoal file.grammar goal → ((t : Tree) → IsTree file.grammar (Nonterminal file.grammar.start) t → Meets goal t → ⊥)
-          → IsBehind above (GoalLine n (words_of file goal) Infeasible ∷ []) of_goal sizes codes (goals ++ words_of file goal ∷ []) (words ++ Infeasible ∷ [])
-      infeasible_fine is none =
-          behind_goal Infeasible
-          (right_goal (checked file texts) above n (words_of file goal) Infeasible (goal_form Infeasible) (goal, goal_due, tt) (goal, goal_due, excluded above goal b is none), tt)
+module _ {s : Setting} {above : List Line} {c : Content} (a : IsAbove s above c) {goal : Goal} (next : IsNext s c goal) where
+  abbrev At : VerdictWords → Line
+  At verdict = GoalLine (length c.goals + 1) (words_of s.file goal) verdict
 
-      pub large_fine : IsBehind above (GoalLine n (words_of file goal) Large ∷ []) of_goal sizes codes (goals ++ words_of file goal ∷ []) (words ++ Large ∷ [])
-      large_fine = behind_goal Large (right_goal (checked file texts) above n (words_of file goal) Large (goal_form Large) (goal, goal_due, tt) tt, tt)
+  goal_due : IsDue s.file (goals_in above) (words_of s.file goal) goal
+  goal_due = subst (λ (l : List GoalWords). IsDue s.file l (words_of s.file goal) goal) (sym a.told.goals_are) next.due
+
+  goal_fine : (verdict : VerdictWords) → HasCases s.file.grammar above verdict goal → HasExcluded s.file above (At verdict) → IsBehind s above (At verdict ∷ []) (with_goal c (words_of s.file goal) verdict)
+  goal_fine verdict has none =
+      behind_line a (At verdict) of_goal refl refl
+      (right_goal (by s) above (length c.goals + 1) (words_of s.file goal) verdict (may_come a (At verdict) next.follows (ap (λ (l : List GoalWords). length l + 1) (sym a.told.goals_are)))
+      (goal, goal_due, has) none)
+
+  pub feasible_fine : (size case first : ℕ) → AreMeeting s.file.grammar c goal size case first → IsBehind s above (At (Feasible size case first) ∷ []) (with_goal c (words_of s.file goal) (Feasible size case first))
+  feasible_fine size case first are =
+      let shown : IsShown s.file.grammar above goal size case first = record {
+        sized = subst (λ (l : List ℕ). IsEntry l case size) (sym a.told.sizes_are) are.sized;
+        met = (are.met.0, subst (λ (l : List (List ℕ)). IsEntry l case are.met.0) (sym a.told.codes_are) are.met.1, are.met.2);
+        met_first = (are.met_first.0, subst (λ (l : List (List ℕ)). IsEntry l first are.met_first.0) (sym a.told.codes_are) are.met_first.1, are.met_first.2);
+      } in
+      goal_fine (Feasible size case first) shown tt
+
+  pub infeasible_fine : IsSetting s → IsGoal s.file.grammar goal → ((t : Tree) → IsTree s.file.grammar (Nonterminal s.file.grammar.start) t → Meets goal t → ⊥)
+      → IsBehind s above (At Infeasible ∷ []) (with_goal c (words_of s.file goal) Infeasible)
+  infeasible_fine is is_goal none = goal_fine Infeasible tt (goal, goal_due, excluded a is goal is_goal none)
+
+  pub large_fine : IsBehind s above (At Large ∷ []) (with_goal c (words_of s.file goal) Large)
+  large_fine = goal_fine Large tt tt

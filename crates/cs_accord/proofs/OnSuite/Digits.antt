@@ -3,7 +3,7 @@ use Rattle.std.proofs.Common.{◌≡◌, ℕ, suc, ◌+◌, ◌/◌, ◌%◌, �
 use Rattle.std.specs.Prelude.{decimal}
 use Rattle.std.specs.List.{AllByRecursion}
 use Rattle.std.proofs.lemmas.Fmt.{decimal_by_steps}
-use Rattle.cs_lines.specs.Words.Words.{digits_within, numeral}
+use Rattle.cs_lines.specs.Words.Words.{numeral}
 use Rattle.cs_lines.proofs.OnLines.Numerals.{small_digits, large_digits, same_digits}
 use Rattle.cs_manifest.specs.Output.Words.{spaced}
 

@@ -5,6 +5,7 @@ use Rattle.std.specs.List.{AllByRecursion, AllZip, Contains}
 use Rattle.std.proofs.lemmas.Option.{slice_get_within, same_Some}
 use Rattle.cs_grammar.specs.declared.symbol.Symbol.TheVariants.{Nonterminal}
 use Rattle.cs_grammar.specs.Grammar.{PlainGrammar, IsNumberOf}
+use Rattle.cs_grammar.specs.Leftmost.{IsYield}
 use Rattle.cs_grammar.specs.Tree.{Tree, Leaf, Node, Forest, Bare, Grown, IsTree, AreTrees, code, codes_of, size}
 use Rattle.cs_grammar.specs.Weights.{Measure}
 use Rattle.cs_grammar.proofs.Measures.{IsNumberOf-rule}
@@ -18,6 +19,7 @@ use Rattle.cs_verdicts.specs.Cases.Cases.{PlainCases, IsNew, IsPlaced, IsLowest,
 use Rattle.cs_verdicts.proofs.OnPositive.Verdicts.{chosen_met, chosen_least_of}
 use Rattle.cs_verdicts.proofs.OnCases.Lowest.{Contains-get, one_lowest, lowest_last}
 use Rattle.cs_check.specs.Passing.Entries.{HasSize, IsNumbered}
+use Rattle.cs_accord.proofs.OnSuite.Setting.{Setting, measure}
 
 -- the rule numbers of a tree are those of rules
 module _ (g : PlainGrammar) where
@@ -59,6 +61,18 @@ shown_by w g goal n derivation h =
       few = h.0;
     }
 
+-- what is picked for a feasible goal: the size, the derivation with its tokens, and how its case is named
+pub record Picked : Type 0 where
+  pub size : ℕ
+  pub derivation : List ℕ
+  pub tokens : List ℕ
+  pub name : Named
+
+pub record IsPicked (s : Setting) (old new : PlainCases) (goal : Goal) (k : Picked) : Type 0 where
+  pub verdict : IsVerdict (measure s) s.file.grammar goal (Feasible k.size k.derivation)
+  pub placed : IsPlaced old goal k.derivation new k.name
+  pub yields : IsYield s.file.grammar k.derivation k.tokens
+
 -- a code has one tree, and so one size
 pub one_size : (w : Measure) (g : PlainGrammar) (rules : List ℕ) (a b : ℕ) → HasSize g w rules a → HasSize g w rules b → a ≡ b
 one_size w g rules a b h k =
@@ -72,7 +86,7 @@ one_size w g rules a b h k =
 abbrev pub AreOf : PlainGrammar → PlainCases → Type 0
 AreOf g cases = cases.grammar ≡ g
 
-module _ (old new : PlainCases) (goal : Goal) (derivation : List ℕ) (named : Named) (placed : IsPlaced old goal derivation new named) where
+module _ {old new : PlainCases} {goal : Goal} {derivation : List ℕ} {named : Named} (placed : IsPlaced old goal derivation new named) where
   pub still_of : (g : PlainGrammar) → AreOf g old → AreOf g new
   still_of g is = at named.fresh placed.cases
     where

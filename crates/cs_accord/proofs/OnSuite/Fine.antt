@@ -1,7 +1,7 @@
 -- Lines that lack each fault, one behind the other; a text of such lines passes.
 use Rattle.std.proofs.Common.{◌≡◌, ℕ, List, [], ◌∷◌, ◌++◌, Option, Some, None, map, sym, ap, ◌∙◌, subst, append_assoc, append-nil}
 use Rattle.std.proofs.lemmas.List.{map_push}
-use Rattle.cs_lines.specs.Lines.Line.{Counts, Line, EndLine}
+use Rattle.cs_lines.specs.Lines.Line.{Line}
 use Rattle.cs_lines.specs.Lines.Pieces.{lines_of, ended}
 use Rattle.cs_check.specs.Passing.First.{IsClean}
 use Rattle.cs_check.specs.Passing.Places.{last_part}
@@ -10,6 +10,7 @@ use Rattle.cs_check.specs.Passing.Passing.{Passes}
 use Rattle.cs_check.specs.Checking.Judging.{IsRight}
 use Rattle.cs_check.proofs.OnPassing.First.{clean_none, clean_push}
 use Rattle.cs_check.proofs.OnChecking.Judging.{said_push, right_faultless, end_faultless}
+use Rattle.cs_accord.proofs.OnSuite.Telling.{of_end}
 use Rattle.cs_accord.proofs.OnSuite.Inner.{text_of, told, IsSayable, AreSayable, says, told_lines}
 
 module _ (c : Checked) where
@@ -52,8 +53,8 @@ module _ (c : Checked) where
       subst IsSoFar (append_assoc done (l ∷ []) rest)
       (so_far_all (done ++ l ∷ []) rest (so_far_more done l so sayable.0 fine.0) sayable.1 fine.1)
 
-  pub passes : (lines : List Line) (text : List ℕ) (counts : Counts) → AreSayable lines → AreFine [] lines → last_part lines ≡ last_part (EndLine counts ∷ []) → text ≡ told lines → Passes c text
-  passes lines text counts sayable fine at_end is =
+  pub passes : (lines : List Line) (text : List ℕ) → AreSayable lines → AreFine [] lines → last_part lines ≡ last_part of_end → text ≡ told lines → Passes c text
+  passes lines text sayable fine at_end is =
       let so = so_far_all [] lines (record { said = tt; clean = clean_none (HasFault c) }) sayable fine in
       let whole : ended text ≡ spoken lines ++ None ∷ [] = ap (λ (l : List (List ℕ)). map Some l ++ None ∷ []) (ap lines_of is ∙ told_lines lines sayable) in
       subst (IsClean (HasFault c)) (sym whole) (clean_push (HasFault c) (spoken lines) None so.clean (end_faultless c (spoken lines) lines so.said at_end))

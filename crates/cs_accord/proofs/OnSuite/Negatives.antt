@@ -1,45 +1,39 @@
 -- The lines of a negative lack each fault below its base.
-use Rattle.std.proofs.Common.{◌≡◌, ℕ, ◌+◌, ◌≤◌, List, [], ◌∷◌, ◌++◌, Option, None, Some, map, length, length-append, refl, sym, ap, ◌∙◌, subst, append_assoc, append-nil, inl, inr, arith}
+use Rattle.std.proofs.Common.{◌≡◌, ℕ, ◌+◌, ◌≤◌, List, [], ◌∷◌, ◌++◌, Option, None, Some, map, length, length-append, refl, sym, ap, subst, append_assoc, append-nil, inl, inr, arith}
 use Rattle.std.specs.Prelude.{All}
 use Rattle.std.specs.List.{AllByRecursion, AllZip, Contains}
 use Rattle.std.proofs.lemmas.List.Elements.{All-head, All-tail}
 use Rattle.cs_grammar.specs.Grammar.{PlainGrammar}
 use Rattle.cs_grammar.specs.Leftmost.{IsYield}
 use Rattle.cs_grammar.specs.Sentence.{framed}
-use Rattle.cs_choices.specs.declared.weigh.Weigh.{Weigh}
-use Rattle.cs_choices.specs.declared.operators.Operators.{Operators}
 use Rattle.cs_goals.proofs.Members.{Among, Contains-from_Among, Among-from_Contains}
 use Rattle.cs_mutate.specs.declared.edit.Edit.{Edit}
 use Rattle.cs_mutate.specs.declared.edit.Edit.TheVariants.{Delete, Insert, Replace, Swap}
 use Rattle.cs_mutate.specs.declared.negative.Negative.{Negative}
 use Rattle.cs_mutate.specs.Edit.{Fits, edited}
 use Rattle.cs_mutate.specs.Edits.{edits}
-use Rattle.cs_mutate.specs.Kept.{AreKept}
-use Rattle.cs_mutate.specs.Negatives.{AreNegatives, IsNegative as IsPoisoned}
+use Rattle.cs_mutate.specs.Negatives.{IsNegative as IsPoisoned}
 use Rattle.cs_mutate.proofs.KeptLists.{are_of_those}
 use Rattle.cs_mutate.proofs.Listed.{members}
 use Rattle.cs_mutate.proofs.Searching.{edits_fit}
 use Rattle.cs_texts.specs.Rendering.Rendering.{Rendering}
-use Rattle.cs_verdicts.specs.Closed.Closed.{AreClosedSets, ClosedSets}
 use Rattle.cs_yacc.specs.Reading.File.{File}
-use Rattle.cs_manifest.specs.Manifest.Manifest.{IsNegativeOf, IsRenderedBy, LexemeList, NegativeEntry, Texts}
+use Rattle.cs_manifest.specs.Manifest.Manifest.{AreNegativesOf, BaseEntry, Choice, IsNegativeOf, IsRenderedBy, LexemeList, NegativeEntry, Texts}
 use Rattle.cs_lines.specs.Words.Names.{token_of, mark_text}
 use Rattle.cs_lines.specs.Words.Edits.{EditWords, IsEdited}
-use Rattle.cs_lines.specs.Lines.Line.{GoalWords, VerdictWords, Feasible, Line}
-use Rattle.cs_check.specs.Passing.Entries.{IsNumbered as IsEntry, IsLast, IsBase, IsMade, IsNegative, IsTold, AreTold as AreTokensTold, IsKeptApart}
+use Rattle.cs_lines.specs.Lines.Line.{VerdictWords, Feasible, Line}
+use Rattle.cs_check.specs.Passing.Entries.{IsNumbered as IsEntry, IsLast, IsBase, IsNegative, IsTold, AreTold as AreTokensTold, IsKeptApart}
 use Rattle.cs_check.specs.Passing.Places.{last_part, next_parts}
 use Rattle.cs_check.proofs.OnChecking.Kinds.{right_tokens, right_negative}
-use Rattle.cs_accord.specs.Accord.{checked}
-use Rattle.cs_accord.specs.Named.{IsNamedFile}
 use Rattle.cs_accord.specs.Suite.{numbered, edit_of, negative_line, negative_lines, text_line, text_lines, tokens_line}
-use Rattle.cs_accord.proofs.OnSuite.Cases.{Below, may_come, text_fine}
+use Rattle.cs_accord.proofs.OnSuite.Above.{IsAbove, IsBehind, may_come, behind_none, behind_line, behind_both}
+use Rattle.cs_accord.proofs.OnSuite.Cases.{text_fine}
 use Rattle.cs_accord.proofs.OnSuite.Claims.{made, made_exact, made_claimed}
-use Rattle.cs_accord.proofs.OnSuite.Fine.{AreFine, fine_both}
-use Rattle.cs_accord.proofs.OnSuite.HeadTold.{below_more}
 use Rattle.cs_accord.proofs.OnSuite.Naming.{token_named}
-use Rattle.cs_accord.proofs.OnSuite.Telling.{Told, of_base, of_negative, of_negative_tokens, of_negative_text, of_end, told_negative, told_tokens, is_last}
+use Rattle.cs_accord.proofs.OnSuite.Setting.{Setting, IsSetting, by}
+use Rattle.cs_accord.proofs.OnSuite.Telling.{Content, Told, of_base, of_negative, of_negative_tokens, of_negative_text, of_end, is_last}
 
--- negatives may come there
+-- negatives, bases and the end may come there
 pub record IsBasePart (shown : List Line) : Type 0 where
   pub negative : Contains (next_parts (last_part shown)) (last_part of_negative)
   pub base : Contains (next_parts (last_part shown)) (last_part of_base)
@@ -48,8 +42,8 @@ pub record IsBasePart (shown : List Line) : Type 0 where
 pub base_part : IsBasePart of_base
 base_part = record { negative = (0, omega arith, refl); base = (1, omega arith, refl); end = (2, omega arith, refl) }
 
-pub text_part : IsBasePart of_negative_text
-text_part = record { negative = (0, omega arith, refl); base = (1, omega arith, refl); end = (2, omega arith, refl) }
+negative_part : IsBasePart of_negative_text
+negative_part = record { negative = (0, omega arith, refl); base = (1, omega arith, refl); end = (2, omega arith, refl) }
 
 -- the goal is feasible, and its case yields these tokens
 pub record IsBaseGoal (g : PlainGrammar) (words : List VerdictWords) (codes : List (List ℕ)) (goal : ℕ) (tokens : List ℕ) : Type 0 where
@@ -68,155 +62,157 @@ pub record IsKnown (g : PlainGrammar) (base : List ℕ) (n : Negative) : Type 0 
   pub poisoned : IsPoisoned g base n
 
 -- those that are kept are such
-module _ (g : PlainGrammar) (base : List ℕ) (operators : Operators) (first : Option ℕ) (before ns kept : List Negative)
-    (all : AreNegatives g base (edits g.tokens base operators) ns) (are_kept : AreKept g base first before ns kept) where
+module _ {g : PlainGrammar} {choice : Choice} {lexemes : Option LexemeList} {before : List Negative} {base : List ℕ} {entries : List NegativeEntry} (of : AreNegativesOf g choice lexemes before base entries) where
   fits_among : (es : List Edit) (e : Edit) → All (Fits (length base) g.tokens) es → Among e es → Fits (length base) g.tokens e
   fits_among [] e each among = absurd among
   fits_among (x ∷ es) e each (inl here) = subst (Fits (length base) g.tokens) (sym here) (All-head (Fits (length base) g.tokens) x es each)
   fits_among (x ∷ es) e each (inr later) = fits_among es e (All-tail (Fits (length base) g.tokens) x es each) later
 
-  known_at : (n : Negative) → Among n kept → IsKnown g base n
+  known_at : (n : Negative) → Among n of.kept → IsKnown g base n
   known_at n among =
-      let within = (are_of_those g base first before ns kept are_kept n (Contains-from_Among n kept among)).0 in
-      let is = (members g base (edits g.tokens base operators) ns n all).0 within in
+      let within = (are_of_those g base choice.first before of.negatives of.kept of.are_kept n (Contains-from_Among n of.kept among)).0 in
+      let is = (members g base (edits g.tokens base choice.operators) of.negatives n of.all).0 within in
       record {
-        fits = fits_among (edits g.tokens base operators) n.edit (edits_fit g.tokens base operators) (Among-from_Contains n.edit (edits g.tokens base operators) is.0);
+        fits = fits_among (edits g.tokens base choice.operators) n.edit (edits_fit g.tokens base choice.operators) (Among-from_Contains n.edit (edits g.tokens base choice.operators) is.0);
         poisoned = is.1;
       }
 
-  known_all : (list : List Negative) → ((n : Negative) → Among n list → Among n kept) → AllByRecursion (IsKnown g base) list
-  known_all [] within = tt
-  known_all (n ∷ list) within = (known_at n (within n (inl refl)), known_all list (λ m among. within m (inr among)))
+-- a negative of the base that is known, and what came of rendering it
+pub record IsKnownNegative (s : Setting) (base : List ℕ) (e : NegativeEntry) : Type 0 where
+  pub known : IsKnown s.file.grammar base e.negative
+  pub text : IsRenderedBy (Some s.texts) (Some s.lexemes) (edited base e.negative.edit) e.rendered
 
-  pub all_known : AllByRecursion (IsKnown g base) kept
-  all_known = known_all kept (λ n among. among)
+pub known_negatives : {s : Setting} {before : List Negative} {base : List ℕ} (entries : List NegativeEntry) → IsSetting s → AreNegativesOf s.file.grammar s.choice (Some s.lexemes) before base entries
+    → AllByRecursion (IsKnownNegative s base) entries
+known_negatives {s} {before} {base} entries is of =
+    each of.kept entries (λ n among. known_at of n among) (subst (λ (o : Option Texts). AllZip (IsNegativeOf o (Some s.lexemes) base) of.kept entries) is.texts_are of.each)
+  where
+    each : (kept : List Negative) (list : List NegativeEntry) → ((n : Negative) → Among n kept → IsKnown s.file.grammar base n) → AllZip (IsNegativeOf (Some s.texts) (Some s.lexemes) base) kept list
+        → AllByRecursion (IsKnownNegative s base) list
+    each kept [] within zip = tt
+    each [] (e ∷ list) within zip = absurd zip
+    each (n ∷ kept) (e ∷ list) within zip = (
+      record {
+        known = subst (IsKnown s.file.grammar base) (sym zip.0.is_of) (within n (inl refl));
+        text = subst (λ (m : Negative). IsRenderedBy (Some s.texts) (Some s.lexemes) (edited base m.edit) e.rendered) (sym zip.0.is_of) zip.0.text;
+      },
+      each kept list (λ m among. within m (inr among)) zip.1,
+    )
 
 -- the words of edits
 abbrev pub edits_told : File → List NegativeEntry → List EditWords
 edits_told file entries = map (λ (e : NegativeEntry). edit_of file e.negative.edit) entries
 
-module _ (file : File) (named : IsNamedFile file) (texts : Texts) (weigh : Weigh) (lexemes : LexemeList) (closed : ClosedSets) (are : AreClosedSets file.grammar closed) where
+-- ---- below a base
+
+-- the last base is of a goal, and its tokens are these
+pub record IsLastBase (g : PlainGrammar) (words : List VerdictWords) (codes : List (List ℕ)) (bases : List ℕ) (tokens : List ℕ) : Type 0 where
+  pub goal : ℕ
+  pub last : IsLast bases goal
+  pub of : IsBaseGoal g words codes goal tokens
+
+is_base : {g : PlainGrammar} {above : List Line} {c : Content} {tokens : List ℕ} → Told above c → IsLastBase g c.words c.codes c.bases tokens → IsBase g above tokens
+is_base t b = record {
+  goal = b.goal;
+  case = b.of.case;
+  rules = b.of.rules;
+  is_goal = subst (λ (l : List ℕ). IsLast l b.goal) (sym t.bases_are) b.last;
+  has_case = (b.of.size, b.of.first, subst (λ (l : List VerdictWords). IsEntry l b.goal (Feasible b.of.size b.of.case b.of.first)) (sym t.words_are) b.of.verdict);
+  derived = subst (λ (l : List (List ℕ)). IsEntry l b.of.case b.of.rules) (sym t.codes_are) b.of.derived;
+  yields = b.of.yields;
+}
+
+-- lines that lack each fault, behind which negatives, bases and the end may come; this is told, but for where the last stands
+pub record IsPast (s : Setting) (above lines : List Line) (c : Content) : Type 0 where
+  pub shown : List Line
+  pub starts : IsBasePart shown
+  pub behind : IsBehind s above lines (record c { shown = shown })
+
+module _ {s : Setting} (is : IsSetting s) where
   -- an edit that fits, as its words tell it
-  edited_is : (w : List ℕ) (e : Edit) → Fits (length w) file.grammar.tokens e → IsEdited file w (edit_of file e) (edited w e)
+  edited_is : (w : List ℕ) (e : Edit) → Fits (length w) s.file.grammar.tokens e → IsEdited s.file w (edit_of s.file e) (edited w e)
   edited_is w (Delete i) fits = (fits.0, refl)
-  edited_is w (Insert i t) fits = (fits.0, t, token_named file named t fits.1, refl)
-  edited_is w (Replace i t) fits = (fits.0, t, token_named file named t fits.1, refl)
+  edited_is w (Insert i t) fits = (fits.0, t, token_named s.file is.named t fits.1, refl)
+  edited_is w (Replace i t) fits = (fits.0, t, token_named s.file is.named t fits.1, refl)
   edited_is w (Swap i) fits = (fits.0, refl)
 
-  -- lines that lack each fault, and what is told behind them
-  pub record IsPast (above lines : List Line) (sizes : List ℕ) (codes : List (List ℕ)) (goals : List GoalWords) (words : List VerdictWords) (bases : List ℕ) (made_edits : List EditWords) : Type 0 where
-    pub shown : List Line
-    pub part : IsBasePart shown
-    pub fine : AreFine (checked file texts) above lines
-    pub below : Below file named texts weigh lexemes closed are (above ++ lines)
-    pub told : Told (above ++ lines) shown sizes codes goals words bases made_edits
-
-  module _ (sizes : List ℕ) (codes : List (List ℕ)) (goals : List GoalWords) (words : List VerdictWords) (bases : List ℕ) (goal : ℕ) (tokens : List ℕ)
-      (of : IsBaseGoal file.grammar words codes goal tokens) where
-    is_base : (above shown : List Line) (made_edits : List EditWords) → Told above shown sizes codes goals words (bases ++ goal ∷ []) made_edits → IsBase file.grammar above tokens
-    is_base above shown made_edits t = record {
-      goal = goal;
-      case = of.case;
-      rules = of.rules;
-      is_goal = subst (λ (l : List ℕ). IsLast l goal) (sym t.bases_are) (is_last bases goal);
-      has_case = (of.size, of.first, subst (λ (l : List VerdictWords). IsEntry l goal (Feasible of.size of.case of.first)) (sym t.words_are) of.verdict);
-      derived = subst (λ (l : List (List ℕ)). IsEntry l of.case of.rules) (sym t.codes_are) of.derived;
-      yields = of.yields;
+  module _ {above : List Line} {c : Content} (a : IsAbove s above c) (starts : IsBasePart c.shown) {tokens : List ℕ} (b : IsLastBase s.file.grammar c.words c.codes c.bases tokens) where
+    kept_apart : (n : Negative) → IsKnown s.file.grammar tokens n → IsKeptApart s.file above (framed (edited tokens n.edit)) n.at (mark_text s.file n.left) (mark_text s.file n.right)
+    kept_apart n known = record {
+      a = n.left;
+      b = n.right;
+      first = known.poisoned.pair.left;
+      second = known.poisoned.pair.right;
+      named = refl;
+      named_behind = refl;
+      apart = (
+        a.below.has,
+        made s.file is.named s.closed is.closed,
+        made_claimed s.file is.named s.closed is.closed above a.below.told,
+        λ next. known.poisoned.poisoned (((made_exact s.file is.named s.closed is.closed).next n.left n.right).0 next),
+      );
     }
 
-    three : (above : List Line) (k l m : Line) → ((above ++ k ∷ []) ++ l ∷ []) ++ m ∷ [] ≡ above ++ k ∷ l ∷ m ∷ []
-    three above k l m = simp (append_assoc) refl
+    negative_fine : (e : NegativeEntry) → IsKnownNegative s tokens e → (rendered : Option Rendering) → IsRenderedBy (Some s.texts) (Some s.lexemes) (edited tokens e.negative.edit) rendered
+        → IsPast s above (negative_line s.file (length c.edits + 1) (length c.bases) e.negative ∷ tokens_line s.file (edited tokens e.negative.edit) ∷ text_lines s.file rendered)
+        (record c { edits = c.edits ++ edit_of s.file e.negative.edit ∷ [] })
+    negative_fine e known None text = absurd text
+    negative_fine e known (Some r) text =
+        let n = e.negative in
+        let edit = edit_of s.file n.edit in
+        let y = edited tokens n.edit in
+        let first = negative_line s.file (length c.edits + 1) (length c.bases) n in
+        let second = tokens_line s.file y in
+        let last = text_line s.file r in
+        let one = above ++ first ∷ [] in
+        let two = one ++ second ∷ [] in
+        let edited_here : IsEdited s.file tokens edit y = edited_is tokens n.edit known.known.fits in
+        let b1 = behind_line a first of_negative refl refl
+        (right_negative (by s) above (length c.edits + 1) (length c.bases) edit (mark_text s.file n.left) (mark_text s.file n.right) n.at
+        (may_come a first starts.negative (ap (λ (l : List EditWords). length l + 1) (sym a.told.edits_are))) (ap (λ (l : List ℕ). length l) (sym a.told.bases_are))
+        (tokens, is_base a.told b, (y, edited_here)) (y, (tokens, is_base a.told b, edited_here), kept_apart n known.known)) in
+        let t1 = b1.told.told in
+        let neg_one : IsNegative s.file one y = (edit, subst (λ (l : List EditWords). IsLast l edit) (sym t1.edits_are) (is_last c.edits edit), (tokens, is_base t1 b, edited_here)) in
+        let told_one : AreTokensTold s.file one y = subst (λ q. IsTold s.file one q y) (sym t1.part_is) neg_one in
+        let b2 = behind_line b1.told second of_negative_tokens refl refl (right_tokens (by s) one (map (token_of s.file) y) (may_come b1.told second (0, omega arith, refl) tt) (y, told_one, refl)) in
+        let t2 = b2.told.told in
+        let neg_two : IsNegative s.file two y = (edit, subst (λ (l : List EditWords). IsLast l edit) (sym t2.edits_are) (is_last c.edits edit), (tokens, is_base t2 b, edited_here)) in
+        let told_two : AreTokensTold s.file two y = subst (λ q. IsTold s.file two q y) (sym t2.part_is) neg_two in
+        let b3 = text_fine b2.told of_negative_text refl (0, omega arith, refl) y told_two r text in
+        record {
+          shown = of_negative_text;
+          starts = negative_part;
+          behind = behind_both (first ∷ []) (second ∷ last ∷ []) b1 (behind_both (second ∷ []) (last ∷ []) b2 b3);
+        }
 
-    module _ (above p : List Line) (made_edits : List EditWords) (b : Below file named texts weigh lexemes closed are above)
-        (t : Told above p sizes codes goals words (bases ++ goal ∷ []) made_edits) (starts : IsBasePart p) (number base : ℕ)
-        (number_is : number ≡ length made_edits + 1) (base_is : base ≡ length (bases ++ goal ∷ []))
-        (n : Negative) (known : IsKnown file.grammar tokens n) where
-      made_here : (lines shown : List Line) (es : List EditWords) → Told lines shown sizes codes goals words (bases ++ goal ∷ []) es → IsMade file lines (edit_of file n.edit) (edited tokens n.edit)
-      made_here lines shown es told = (tokens, is_base lines shown es told, edited_is tokens n.edit known.fits)
-
-      kept_apart : IsKeptApart file above (framed (edited tokens n.edit)) n.at (mark_text file n.left) (mark_text file n.right)
-      kept_apart = record {
-        a = n.left;
-        b = n.right;
-        first = known.poisoned.pair.left;
-        second = known.poisoned.pair.right;
-        named = refl;
-        named_behind = refl;
-        apart = (
-          b.has,
-          made file named closed are,
-          made_claimed file named closed are above b.told,
-          λ next. known.poisoned.poisoned (((made_exact file named closed are).next n.left n.right).0 next),
-        );
+  -- all negatives of the base
+  pub negatives_fine : {tokens : List ℕ} (entries : List NegativeEntry) → AllByRecursion (IsKnownNegative s tokens) entries → {above : List Line} {c : Content} → IsAbove s above c → IsBasePart c.shown
+      → IsLastBase s.file.grammar c.words c.codes c.bases tokens
+      → IsPast s above (numbered (length c.edits + 1) (negative_lines s.file (length c.bases) tokens) entries) (record c { edits = c.edits ++ edits_told s.file entries })
+  negatives_fine [] known {above} {c} a starts b = record {
+    shown = c.shown;
+    starts = starts;
+    behind = subst (λ (l : List EditWords). IsBehind s above [] (record c { edits = l })) (sym (append-nil c.edits)) (behind_none a);
+  }
+  negatives_fine {tokens} (e ∷ entries) known {above} {c} a starts b =
+      let edit = edit_of s.file e.negative.edit in
+      let lines = negative_lines s.file (length c.bases) tokens (length c.edits + 1) e in
+      let behind = λ (n : ℕ). numbered n (negative_lines s.file (length c.bases) tokens) entries in
+      let next = length (c.edits ++ edit ∷ []) + 1 in
+      let next_is : next ≡ length c.edits + 1 + 1 = (let more = length-append c.edits (edit ∷ []) in omega (arith, more)) in
+      let one = negative_fine a starts b e known.0 e.rendered known.0.text in
+      let rest = negatives_fine entries known.1 one.behind.told one.starts b in
+      let both = behind_both lines (behind next) one.behind rest.behind in
+      let all = subst (λ (l : List EditWords). IsBehind s above (lines ++ behind next) (record c { shown = rest.shown; edits = l })) (append_assoc c.edits (edit ∷ []) (edits_told s.file entries)) both in
+      record {
+        shown = rest.shown;
+        starts = rest.starts;
+        behind = subst (λ (n : ℕ). IsBehind s above (lines ++ behind n) (record c { shown = rest.shown; edits = c.edits ++ edits_told s.file (e ∷ entries) })) next_is all;
       }
 
-      pub negative_fine : (rendered : Option Rendering) → IsRenderedBy (Some texts) (Some lexemes) (edited tokens n.edit) rendered
-          → IsPast above (negative_line file number base n ∷ tokens_line file (edited tokens n.edit) ∷ text_lines file rendered) sizes codes goals words (bases ++ goal ∷ []) (made_edits ++ edit_of file n.edit ∷ [])
-      negative_fine None is = absurd is
-      negative_fine (Some r) is =
-          let y = edited tokens n.edit in
-          let first = negative_line file number base n in
-          let second = tokens_line file y in
-          let es = made_edits ++ edit_of file n.edit ∷ [] in
-          let one = above ++ first ∷ [] in
-          let two = one ++ second ∷ [] in
-          let b1 = below_more file weigh lexemes closed above first refl b in
-          let b2 = below_more file weigh lexemes closed one second refl b1 in
-          let t1 = told_negative above p sizes codes goals words (bases ++ goal ∷ []) made_edits t number base (edit_of file n.edit) (mark_text file n.left) (mark_text file n.right) n.at in
-          let t2 = told_tokens one of_negative sizes codes goals words (bases ++ goal ∷ []) es t1 (map (token_of file) y) of_negative_tokens refl in
-          let neg_one : IsNegative file one y = (edit_of file n.edit, subst (λ (l : List EditWords). IsLast l (edit_of file n.edit)) (sym t1.edits_are) (is_last made_edits (edit_of file n.edit)), made_here one of_negative es t1) in
-          let neg_two : IsNegative file two y = (edit_of file n.edit, subst (λ (l : List EditWords). IsLast l (edit_of file n.edit)) (sym t2.edits_are) (is_last made_edits (edit_of file n.edit)), made_here two of_negative_tokens es t2) in
-          let told_one : AreTokensTold file one y = subst (λ q. IsTold file one q y) (sym t1.part_is) neg_one in
-          let told_two : AreTokensTold file two y = subst (λ q. IsTold file two q y) (sym t2.part_is) neg_two in
-          let right_first = right_negative (checked file texts) above number base (edit_of file n.edit) (mark_text file n.left) (mark_text file n.right) n.at
-          (may_come file named texts weigh lexemes closed are above first p b t.part_is starts.negative (number_is ∙ ap (λ (l : List EditWords). length l + 1) (sym t.edits_are)))
-          (base_is ∙ ap (λ (l : List ℕ). length l) (sym t.bases_are))
-          (tokens, is_base above p made_edits t, (y, edited_is tokens n.edit known.fits))
-          (y, made_here above p made_edits t, kept_apart) in
-          let right_second = right_tokens (checked file texts) one (map (token_of file) y)
-          (may_come file named texts weigh lexemes closed are one second of_negative b1 t1.part_is (0, omega arith, refl) tt) (y, told_one, refl) in
-          let last = text_fine file named texts weigh lexemes closed are two of_negative_tokens of_negative_text sizes codes goals words (bases ++ goal ∷ []) es b2 t2 y refl (0, omega arith, refl) told_two r is in
-          let whole = three above first second (text_line file r) in
-          record {
-            shown = of_negative_text;
-            part = text_part;
-            fine = (right_first, (right_second, last.fine));
-            below = subst (Below file named texts weigh lexemes closed are) whole last.below;
-            told = subst (λ (l : List Line). Told l of_negative_text sizes codes goals words (bases ++ goal ∷ []) es) whole last.told;
-          }
+-- ---- what is known of a base
 
-    -- all negatives of the base
-    pub negatives_fine : (above p : List Line) (made_edits : List EditWords) → Below file named texts weigh lexemes closed are above → Told above p sizes codes goals words (bases ++ goal ∷ []) made_edits → IsBasePart p
-        → (number base : ℕ) → number ≡ length made_edits + 1 → base ≡ length (bases ++ goal ∷ []) → (kept : List Negative) → AllByRecursion (IsKnown file.grammar tokens) kept
-        → (entries : List NegativeEntry) → AllZip (IsNegativeOf (Some texts) (Some lexemes) tokens) kept entries
-        → IsPast above (numbered number (negative_lines file base tokens) entries) sizes codes goals words (bases ++ goal ∷ []) (made_edits ++ edits_told file entries)
-    negatives_fine above p made_edits b t starts number base number_is base_is [] known [] zip = record {
-      shown = p;
-      part = starts;
-      fine = tt;
-      below = subst (Below file named texts weigh lexemes closed are) (sym (append-nil above)) b;
-      told = subst (λ (l : List Line). Told l p sizes codes goals words (bases ++ goal ∷ []) (made_edits ++ [])) (sym (append-nil above))
-          (subst (λ (l : List EditWords). Told above p sizes codes goals words (bases ++ goal ∷ []) l) (sym (append-nil made_edits)) t);
-    }
-    negatives_fine above p made_edits b t starts number base number_is base_is [] known (e ∷ entries) zip = absurd zip
-    negatives_fine above p made_edits b t starts number base number_is base_is (n ∷ kept) known [] zip = absurd zip
-    negatives_fine above p made_edits b t starts number base number_is base_is (n ∷ kept) known (e ∷ entries) zip =
-        let is = zip.0 in
-        let known_here : IsKnown file.grammar tokens e.negative = subst (IsKnown file.grammar tokens) (sym is.is_of) known.0 in
-        let text_here : IsRenderedBy (Some texts) (Some lexemes) (edited tokens e.negative.edit) e.rendered =
-        subst (λ (m : Negative). IsRenderedBy (Some texts) (Some lexemes) (edited tokens m.edit) e.rendered) (sym is.is_of) is.text in
-        let lines = negative_lines file base tokens number e in
-        let one = negative_fine above p made_edits b t starts number base number_is base_is e.negative known_here e.rendered text_here in
-        let more = length-append made_edits (edit_of file e.negative.edit ∷ []) in
-        let behind = numbered (number + 1) (negative_lines file base tokens) entries in
-        let rest = negatives_fine (above ++ lines) one.shown (made_edits ++ edit_of file e.negative.edit ∷ []) one.below one.told one.part (number + 1) base (omega (arith, number_is, more)) base_is kept known.1 entries zip.1 in
-        let whole = append_assoc above lines behind in
-        let all_edits = append_assoc made_edits (edit_of file e.negative.edit ∷ []) (edits_told file entries) in
-        record {
-          shown = rest.shown;
-          part = rest.part;
-          fine = fine_both (checked file texts) above lines behind one.fine rest.fine;
-          below = subst (Below file named texts weigh lexemes closed are) whole rest.below;
-          told = subst (λ (l : List Line). Told l rest.shown sizes codes goals words (bases ++ goal ∷ []) (made_edits ++ edits_told file (e ∷ entries))) whole
-              (subst (λ (l : List EditWords). Told ((above ++ lines) ++ behind) rest.shown sizes codes goals words (bases ++ goal ∷ []) l) all_edits rest.told);
-        }
+pub record IsKnownBase (s : Setting) (words : List VerdictWords) (codes : List (List ℕ)) (base : BaseEntry) : Type 0 where
+  pub of : IsBaseGoal s.file.grammar words codes base.goal base.tokens
+  pub before : List Negative
+  pub made : AreNegativesOf s.file.grammar s.choice (Some s.lexemes) before base.tokens base.negatives

@@ -162,6 +162,13 @@ says_case n size small fits =
     ∙ ap (λ (d : List ℕ). codes "case " ++ (numeral n ++ line (codes " size " ++ d))) (digits_are size fits)
     ∙ ap (λ (l : List ℕ). codes "case " ++ l) (sym (flat3 (numeral n) (codes " size " ++ numeral size) (10 ∷ [])))
 
+-- the numbers of a case are told by at most 64 bits
+pub record IsSmallCase (n size : ℕ) (rules : List ℕ) (rendered : Option Rendering) : Type 0 where
+  pub number : IsSmall n
+  pub fits : IsSmall size
+  pub few : AllByRecursion IsSmall rules
+  pub text : IsSmallRendering rendered
+
 rearranged : (c s d t x : List ℕ) → (c ++ ((s ++ d) ++ t)) ++ x ≡ (c ++ s) ++ (d ++ (t ++ x))
 rearranged c s d t x = simp (append_assoc) refl
 
@@ -170,15 +177,15 @@ module _ (file : File) where
   writes_texts None small sayable = writes_none
   writes_texts (Some rendered) small sayable = writes_one (put.text_line file rendered) (text_line file rendered) (says_text file rendered small) sayable.0
 
-  pub writes_case : (n size : ℕ) (rules tokens : List ℕ) (rendered : Option Rendering) → IsSmall n → IsSmall size → AllByRecursion IsSmall rules → IsSmallRendering rendered
-      → AreSayable (case_lines file n size rules tokens rendered) → Writes (put_shared.case_lines file n size rules tokens rendered) (case_lines file n size rules tokens rendered)
-  writes_case n size rules tokens rendered small fits few fine sayable =
+  pub writes_case : (n size : ℕ) (rules tokens : List ℕ) (rendered : Option Rendering) → IsSmallCase n size rules rendered → AreSayable (case_lines file n size rules tokens rendered)
+      → Writes (put_shared.case_lines file n size rules tokens rendered) (case_lines file n size rules tokens rendered)
+  writes_case n size rules tokens rendered small sayable =
       writes_as (put_shared.case_lines file n size rules tokens rendered) _ (case_lines file n size rules tokens rendered)
       (rearranged (numbered_word (codes "case ") n) (put.size_words size) (put.derive_line rules) (put.tokens_line file tokens) (put.text_lines file rendered))
-      (writes_more (numbered_word (codes "case ") n ++ put.size_words size) _ (CaseLine n size) _ (says_case n size small fits) sayable.0
-      (writes_more (put.derive_line rules) _ (DeriveLine rules) _ (says_derivation rules few) sayable.1.0
+      (writes_more (numbered_word (codes "case ") n ++ put.size_words size) _ (CaseLine n size) _ (says_case n size small.number small.fits) sayable.0
+      (writes_more (put.derive_line rules) _ (DeriveLine rules) _ (says_derivation rules small.few) sayable.1.0
       (writes_more (put.tokens_line file tokens) _ (tokens_line file tokens) _ (says_tokens file tokens) sayable.1.1.0
-      (writes_texts rendered fine sayable.1.1.1))))
+      (writes_texts rendered small.text sayable.1.1.1))))
 
   -- ---- goals
 

@@ -1,5 +1,5 @@
 -- What the end line counts is what the lines above tell.
-use Rattle.std.proofs.Common.{◌≡◌, ℕ, suc, ◌+◌, Bool, List, [], ◌∷◌, Option, map, length, refl, sym, ap, ◌∙◌, subst, cond}
+use Rattle.std.proofs.Common.{◌≡◌, ℕ, suc, ◌+◌, Bool, List, [], ◌∷◌, Option, Some, map, length, refl, sym, ap, ◌∙◌, subst, cond}
 use Rattle.std.specs.Prelude.{count_by, sum_by}
 use Rattle.std.specs.List.{AllZip}
 use Rattle.std.proofs.lemmas.List.{length-map}
@@ -7,14 +7,15 @@ use Rattle.std.proofs.lemmas.List.Sums.{sum_by-cons}
 use Rattle.cs_goals.specs.declared.goal.Goal.{Goal}
 use Rattle.cs_verdicts.specs.declared.positive.verdict.Verdict.{Verdict}
 use Rattle.cs_verdicts.specs.declared.positive.verdict.Verdict.TheVariants as verdict
-use Rattle.cs_verdicts.specs.Cases.Cases.{PlainCases}
+use Rattle.cs_verdicts.specs.Cases.Cases.{PlainCases, no_cases}
 use Rattle.cs_manifest.specs.declared.manifest.verdict.SharedVerdict.{SharedVerdict}
 use Rattle.cs_manifest.specs.Manifest.Lines as put
 use Rattle.cs_manifest.specs.Manifest.Manifest.{AreShared, BaseEntry, GoalEntry, IsSharedVerdict, LexemeList, SharedEntry, Texts}
 use Rattle.cs_lines.specs.Lines.Line.{VerdictWords, Counts, Line}
 use Rattle.cs_check.specs.Passing.Above.{case_sizes, verdicts, edits, is_feasible, is_infeasible, is_large}
 use Rattle.cs_check.specs.Passing.Faults.{counted}
-use Rattle.cs_accord.specs.Suite.{verdict_of, counts_of}
+use Rattle.cs_accord.specs.Suite.{verdict_of}
+use Rattle.cs_accord.proofs.OnSuite.Setting.{Setting, Body, IsBody, counts_in, words_told}
 
 -- an entry and its words are of one verdict
 record IsAlike (e : GoalEntry) (s : SharedEntry) : Type 0 where
@@ -56,26 +57,31 @@ same_length [] (s ∷ list) zip = absurd zip
 same_length (e ∷ entries) [] zip = absurd zip
 same_length (e ∷ entries) (s ∷ list) zip = ap (λ n. suc n) (same_length entries list zip.1)
 
+-- counts as they stand in the end line
 abbrev counts : ℕ → ℕ → ℕ → ℕ → ℕ → ℕ → Counts
 counts g f i l n c = record { goals = g; feasible = f; infeasible = i; large = l; negatives = n; cases = c }
 
-pub totals : (texts : Option Texts) (lexemes : Option LexemeList) (old : PlainCases) (entries : List GoalEntry) (new : PlainCases) (list : List SharedEntry) → AreShared texts lexemes old entries new list
-    → (mutants : List BaseEntry) (many : ℕ) (above : List Line) → verdicts above ≡ map (λ (s : SharedEntry). verdict_of s.verdict) list
-    → length (edits above) ≡ sum_by (λ (b : BaseEntry). length b.negatives) mutants → length (case_sizes above) ≡ many → counts_of entries mutants many ≡ counted above
-totals texts lexemes old entries new list shared_are mutants many above words edits_are cases_are =
-    let zip = all_alike texts lexemes old entries new list shared_are in
-    let list_words = map (λ (s : SharedEntry). verdict_of s.verdict) list in
-    let g : length entries ≡ length (verdicts above) = same_length entries list zip ∙ sym (length-map list (λ (s : SharedEntry). verdict_of s.verdict)) ∙ ap (λ (l : List VerdictWords). length l) (sym words) in
-    let f : count_by (λ (e : GoalEntry). put.is_feasible e.verdict) entries ≡ count_by is_feasible (verdicts above) =
-    same_count (λ (e : GoalEntry). put.is_feasible e.verdict) is_feasible (λ e s a. a.feasible) entries list zip ∙ ap (λ (l : List VerdictWords). count_by is_feasible l) (sym words) in
-    let i : count_by (λ (e : GoalEntry). put.is_infeasible e.verdict) entries ≡ count_by is_infeasible (verdicts above) =
-    same_count (λ (e : GoalEntry). put.is_infeasible e.verdict) is_infeasible (λ e s a. a.infeasible) entries list zip ∙ ap (λ (l : List VerdictWords). count_by is_infeasible l) (sym words) in
-    let l : count_by (λ (e : GoalEntry). put.is_large e.verdict) entries ≡ count_by is_large (verdicts above) =
-    same_count (λ (e : GoalEntry). put.is_large e.verdict) is_large (λ e s a. a.large) entries list zip ∙ ap (λ (x : List VerdictWords). count_by is_large x) (sym words) in
-    let n = sum_by (λ (b : BaseEntry). length b.negatives) mutants in
-    ap (λ x. counts x (count_by (λ (e : GoalEntry). put.is_feasible e.verdict) entries) (count_by (λ (e : GoalEntry). put.is_infeasible e.verdict) entries) (count_by (λ (e : GoalEntry). put.is_large e.verdict) entries) n many) g
-    ∙ ap (λ x. counts (length (verdicts above)) x (count_by (λ (e : GoalEntry). put.is_infeasible e.verdict) entries) (count_by (λ (e : GoalEntry). put.is_large e.verdict) entries) n many) f
-    ∙ ap (λ x. counts (length (verdicts above)) (count_by is_feasible (verdicts above)) x (count_by (λ (e : GoalEntry). put.is_large e.verdict) entries) n many) i
-    ∙ ap (λ x. counts (length (verdicts above)) (count_by is_feasible (verdicts above)) (count_by is_infeasible (verdicts above)) x n many) l
-    ∙ ap (λ x. counts (length (verdicts above)) (count_by is_feasible (verdicts above)) (count_by is_infeasible (verdicts above)) (count_by is_large (verdicts above)) x many) (sym edits_are)
-    ∙ ap (λ x. counts (length (verdicts above)) (count_by is_feasible (verdicts above)) (count_by is_infeasible (verdicts above)) (count_by is_large (verdicts above)) (length (edits above)) x) (sym cases_are)
+-- what the lines tell is as many as the suite holds
+pub record AreTold (b : Body) (above : List Line) : Type 0 where
+  pub words : verdicts above ≡ words_told b.list
+  pub edits_are : length (edits above) ≡ sum_by (λ (x : BaseEntry). length x.negatives) b.mutants
+  pub cases_are : length (case_sizes above) ≡ length b.cases.codes
+
+pub totals : {s : Setting} (b : Body) (above : List Line) → IsBody s b → AreTold b above → counts_in b ≡ counted above
+totals {s} b above body t =
+    let zip = all_alike (Some s.texts) (Some s.lexemes) (no_cases s.file.grammar) b.entries b.cases b.list body.shared in
+    let told = ap (λ (l : List VerdictWords). length l) (sym t.words) in
+    let many = length (verdicts above) in
+    let goals_are : length b.entries ≡ many = same_length b.entries b.list zip ∙ sym (length-map b.list (λ (s : SharedEntry). verdict_of s.verdict)) ∙ told in
+    let same = λ (one : GoalEntry → Bool) (other : VerdictWords → Bool) (alike_is : (e : GoalEntry) (sh : SharedEntry) → IsAlike e sh → one e ≡ other (verdict_of sh.verdict)).
+    same_count one other alike_is b.entries b.list zip ∙ ap (λ (l : List VerdictWords). count_by other l) (sym t.words) in
+    let f = same (λ e. put.is_feasible e.verdict) is_feasible (λ e sh a. a.feasible) in
+    let i = same (λ e. put.is_infeasible e.verdict) is_infeasible (λ e sh a. a.infeasible) in
+    let l = same (λ e. put.is_large e.verdict) is_large (λ e sh a. a.large) in
+    let c = counts_in b in
+    ap (λ x. counts x c.feasible c.infeasible c.large c.negatives c.cases) goals_are
+    ∙ ap (λ x. counts many x c.infeasible c.large c.negatives c.cases) f
+    ∙ ap (λ x. counts many (count_by is_feasible (verdicts above)) x c.large c.negatives c.cases) i
+    ∙ ap (λ x. counts many (count_by is_feasible (verdicts above)) (count_by is_infeasible (verdicts above)) x c.negatives c.cases) l
+    ∙ ap (λ x. counts many (count_by is_feasible (verdicts above)) (count_by is_infeasible (verdicts above)) (count_by is_large (verdicts above)) x c.cases) (sym t.edits_are)
+    ∙ ap (λ x. counts many (count_by is_feasible (verdicts above)) (count_by is_infeasible (verdicts above)) (count_by is_large (verdicts above)) (length (edits above)) x) (sym t.cases_are)

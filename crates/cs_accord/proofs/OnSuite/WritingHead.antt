@@ -7,7 +7,6 @@ use Rattle.cs_grammar.specs.declared.symbol.Mark.{Mark}
 use Rattle.cs_grammar.specs.declared.symbol.Mark.TheVariants as marks
 use Rattle.cs_grammar.specs.Grammar.{IsNumberOf, IsSymbol, IsRuleOf}
 use Rattle.cs_grammar.proofs.Measures.{All-at}
-use Rattle.cs_choices.specs.declared.weigh.Weigh.{Weigh}
 use Rattle.cs_scanner.specs.Lexeme.Lexeme.{AreLexemes, IsLexemeOf, lexeme_in}
 use Rattle.cs_scanner.specs.Scan.Scan.{Scanning}
 use Rattle.cs_pattern_parts.specs.Items.StandsFor.{AreBytes}
@@ -25,9 +24,10 @@ use Rattle.cs_lines.specs.Lines.Line.{SetKind, Productive, Reachable, Empty, Row
 use Rattle.cs_lines.specs.Lines.Texts.{names, text_in}
 use Rattle.cs_check.specs.Passing.Head.{rule_of}
 use Rattle.cs_accord.specs.Named.{IsNamedFile, IsTokenName}
-use Rattle.cs_accord.specs.Suite.{token_lines, rule_lines, lexeme_lines, set_line, edge_lines, next_line, next_lines, head_lines}
+use Rattle.cs_accord.specs.Suite.{token_lines, rule_lines, lexeme_lines, table_lines, set_line, set_lines, edge_lines, next_line, next_lines, closed_lines, head_lines}
 use Rattle.cs_accord.proofs.OnSuite.Inner.{IsSayable}
 use Rattle.cs_accord.proofs.OnSuite.Naming.{token_word, token_is_word, nonterminal_is_word, symbol_is_word, mark_is_word, IsMark}
+use Rattle.cs_accord.proofs.OnSuite.Setting.{Setting, IsSetting}
 use Rattle.cs_accord.proofs.OnSuite.Saying.{Writes, writes_one, writes_both, writes_each, says_weigh, says_token, says_rule, says_lexeme, says_productive, says_reachable, says_empty, says_first, says_last, says_next}
 
 pub no_bytes : AreBytes []
@@ -151,35 +151,50 @@ module _ (file : File) (named : IsNamedFile file) where
         writes_one (put_shared.token_next_line file (1 + i) set) (next_line file (marks.Token (1 + i)) set) (says_next file (marks.Token (1 + i)) set)
         (next_sayable (marks.Token (1 + i)) set (omega arith, (let same = named.is.tokens in omega (arith, within, many, same))) (All-at (AreNamedMarks file) closed.next i set (next_named file named.is closed are) at)))
 
-  -- ---- the whole head
+-- ---- the whole head
 
-  regrouped : (o w t r x a b c f l n ns : List Line)
-      → ((o ++ w) ++ ((t ++ r) ++ x)) ++ ((((((a ++ b) ++ c) ++ f) ++ l) ++ n) ++ ns) ≡ (((o ++ (w ++ t)) ++ r) ++ x) ++ ((a ++ (b ++ c)) ++ ((f ++ l) ++ (n ++ ns)))
-  regrouped o w t r x a b c f l n ns = simp (append_assoc) refl
+tables_grouped : (front tokens rules lexemes : List Line) → front ++ ((tokens ++ rules) ++ lexemes) ≡ ((front ++ tokens) ++ rules) ++ lexemes
+tables_grouped front tokens rules lexemes = simp (append_assoc) refl
 
-  same_lines : (o w : Line) (t r x : List Line) (a b c : Line) (f l : List Line) (n : Line) (ns : List Line)
-      → (((o ∷ []) ++ (w ∷ [])) ++ ((t ++ r) ++ x)) ++ ((((((a ∷ []) ++ (b ∷ [])) ++ (c ∷ [])) ++ f) ++ l ++ (n ∷ [])) ++ ns) ≡ (o ∷ w ∷ t ++ r ++ x) ++ ((a ∷ b ∷ c ∷ []) ++ (f ++ l ++ n ∷ ns))
-  same_lines o w t r x a b c f l n ns = regrouped (o ∷ []) (w ∷ []) t r x (a ∷ []) (b ∷ []) (c ∷ []) f l (n ∷ []) ns
+closed_grouped : (sets first last begin next : List Line) → (((sets ++ first) ++ last) ++ begin) ++ next ≡ sets ++ ((first ++ last) ++ (begin ++ next))
+closed_grouped sets first last begin next = simp (append_assoc) refl
 
-  module _ (weigh : Weigh) (scanning : Scanning) (lexemes : LexemeList) (are_lexemes : AreLexemes scanning file.grammar.tokens lexemes) (closed : ClosedSets) (are : AreClosedSets file.grammar closed) where
-    pub head_written : Writes (put_shared.shared_head_lines file weigh (Some lexemes) closed) (head_lines file weigh lexemes closed)
-    head_written =
-        let all = sets_named file named.is closed are in
-        let productive = set_line Productive file closed.productive in
-        let reachable = set_line Reachable file closed.reachable in
-        let empty = set_line Empty file closed.empty in
-        let begin = next_line file marks.Begin closed.begin in
-        let plain : (l : Line) → names l ≡ [] → text_in l ≡ [] → IsSayable l = λ l e f. record { are_words = subst (All IsWord) (sym e) (All-nil IsWord); are_bytes = subst AreBytes (sym f) no_bytes } in
-        let opening = writes_one (line (codes "conform 2 suite")) Opening refl (plain Opening refl refl) in
-        let weighing = writes_one (put_shared.weigh_line weigh) (Weighing weigh) (says_weigh weigh) (plain (Weighing weigh) refl refl) in
-        let tables = writes_both _ _ _ _ (writes_both _ _ _ _ tokens_written rules_written) (lexemes_written scanning lexemes are_lexemes) in
-        let s1 = writes_one (put_shared.set_line (codes "closed productive") file closed.productive) productive (says_productive file closed.productive) (set_sayable closed are Productive closed.productive all.0) in
-        let s2 = writes_one (put_shared.set_line (codes "closed reachable") file closed.reachable) reachable (says_reachable file closed.reachable) (set_sayable closed are Reachable closed.reachable all.1) in
-        let s3 = writes_one (put_shared.set_line (codes "closed empty") file closed.empty) empty (says_empty file closed.empty) (set_sayable closed are Empty closed.empty all.2) in
-        let sets = writes_both _ _ _ _ (writes_both _ _ _ _ s1 s2) s3 in
-        let next = writes_one (put_shared.next_line file marks.Begin closed.begin) begin (says_next file marks.Begin closed.begin) (next_sayable closed are marks.Begin closed.begin tt (begin_named file named.is closed are)) in
-        let rows = writes_both _ _ _ _ (writes_both _ _ _ _ (writes_both _ _ _ _ (writes_both _ _ _ _ sets (first_written closed are)) (last_written closed are)) next) (next_written closed are) in
-        let written = writes_both _ _ _ _ (writes_both _ _ _ _ (writes_both _ _ _ _ opening weighing) tables) rows in
-        subst (Writes (put_shared.shared_head_lines file weigh (Some lexemes) closed))
-        (same_lines Opening (Weighing weigh) (token_lines file) (rule_lines file) (lexeme_lines file lexemes) productive reachable empty (edge_lines First file closed.first) (edge_lines Last file closed.last) begin (next_lines file closed.next))
-        written
+module _ {s : Setting} (is : IsSetting s) where
+  tables_written : Writes (line (codes "conform 2 suite") ++ put_shared.weigh_line s.choice.weigh ++ put.table_lines s.file (Some s.lexemes)) (table_lines s.file s.choice.weigh s.lexemes)
+  tables_written =
+      let weigh = s.choice.weigh in
+      let plain : (l : Line) → names l ≡ [] → text_in l ≡ [] → IsSayable l = λ l e f. record { are_words = subst (All IsWord) (sym e) (All-nil IsWord); are_bytes = subst AreBytes (sym f) no_bytes } in
+      let opening = writes_one (line (codes "conform 2 suite")) Opening refl (plain Opening refl refl) in
+      let weighing = writes_one (put_shared.weigh_line weigh) (Weighing weigh) (says_weigh weigh) (plain (Weighing weigh) refl refl) in
+      let named = writes_both _ _ _ _ (tokens_written s.file is.named) (rules_written s.file is.named) in
+      let tables = writes_both _ _ _ _ named (lexemes_written s.file is.named s.texts.scanning s.lexemes is.lexemes) in
+      subst (Writes (line (codes "conform 2 suite") ++ put_shared.weigh_line weigh ++ put.table_lines s.file (Some s.lexemes)))
+      (tables_grouped (Opening ∷ Weighing weigh ∷ []) (token_lines s.file) (rule_lines s.file) (lexeme_lines s.file s.lexemes))
+      (writes_both _ _ _ _ (writes_both _ _ _ _ opening weighing) tables)
+
+  sets_written : Writes (put_shared.set_lines s.file s.closed) (set_lines s.file s.closed)
+  sets_written =
+      let closed = s.closed in
+      let all = sets_named s.file is.named.is closed is.closed in
+      let one = writes_one (put_shared.set_line (codes "closed productive") s.file closed.productive) (set_line Productive s.file closed.productive) (says_productive s.file closed.productive)
+      (set_sayable s.file is.named closed is.closed Productive closed.productive all.0) in
+      let two = writes_one (put_shared.set_line (codes "closed reachable") s.file closed.reachable) (set_line Reachable s.file closed.reachable) (says_reachable s.file closed.reachable)
+      (set_sayable s.file is.named closed is.closed Reachable closed.reachable all.1) in
+      let three = writes_one (put_shared.set_line (codes "closed empty") s.file closed.empty) (set_line Empty s.file closed.empty) (says_empty s.file closed.empty)
+      (set_sayable s.file is.named closed is.closed Empty closed.empty all.2) in
+      writes_both _ _ _ _ (writes_both _ _ _ _ one two) three
+
+  closed_written : Writes (put_shared.closed_lines s.file s.closed) (closed_lines s.file s.closed)
+  closed_written =
+      let closed = s.closed in
+      let begin = next_line s.file marks.Begin closed.begin in
+      let next = writes_one (put_shared.next_line s.file marks.Begin closed.begin) begin (says_next s.file marks.Begin closed.begin)
+      (next_sayable s.file is.named closed is.closed marks.Begin closed.begin tt (begin_named s.file is.named.is closed is.closed)) in
+      let first = writes_both _ _ _ _ sets_written (first_written s.file is.named closed is.closed) in
+      let last = writes_both _ _ _ _ first (last_written s.file is.named closed is.closed) in
+      subst (Writes (put_shared.closed_lines s.file closed))
+      (closed_grouped (set_lines s.file closed) (edge_lines First s.file closed.first) (edge_lines Last s.file closed.last) (begin ∷ []) (next_lines s.file closed.next))
+      (writes_both _ _ _ _ (writes_both _ _ _ _ last next) (next_written s.file is.named closed is.closed))
+
+  pub head_written : Writes (put_shared.shared_head_lines s.file s.choice.weigh (Some s.lexemes) s.closed) (head_lines s.file s.choice.weigh s.lexemes s.closed)
+  head_written = writes_both _ _ _ _ tables_written closed_written
