@@ -12,7 +12,7 @@ use Rattle.cs_accord.proofs.OnSuite.Setting.{Setting, by}
 use Rattle.cs_accord.proofs.OnSuite.Telling.{Content, Told, told_line, with_line}
 
 pub record IsAbove (s : Setting) (above : List Line) (c : Content) : Type 0 where
-  pub below : IsBelow s.file s.choice.weigh s.lexemes s.closed above
+  pub below : IsBelow s above
   pub told : Told above c
 
 -- lines that lack each fault, and what is told behind them
@@ -37,7 +37,7 @@ module _ {s : Setting} {above : List Line} {c : Content} (a : IsAbove s above c)
   behind_line l shown behind is right = record {
     fine = fine_one (by s) above l right;
     told = record {
-      below = below_more s.file s.choice.weigh s.lexemes s.closed above l behind a.below;
+      below = below_more s above l behind a.below;
       told = told_line above c a.told l shown is;
     };
   }

@@ -1,5 +1,5 @@
 -- The lines of a suite lack each fault, from the first to the last.
-use Rattle.std.proofs.Common.{◌≡◌, ◌+◌, List, [], ◌∷◌, ◌++◌, length, refl, sym, ap, ◌∙◌, subst, arith}
+use Rattle.std.proofs.Common.{◌≡◌, ◌+◌, List, [], ◌∷◌, ◌++◌, length, refl, ap, ◌∙◌, subst, arith}
 use Rattle.cs_closed.proofs.OnClosed.Exact.{exact_closed}
 use Rattle.cs_goals.specs.declared.goal.Goal.{Goal}
 use Rattle.cs_verdicts.specs.Cases.Cases.{no_cases}
@@ -34,9 +34,9 @@ module _ {s : Setting} (is : IsSetting s) where
 
   head_above : IsAbove s Head (content_of Nothing in_head [])
   head_above =
-      let none = head_tells_none s.file is.named s.choice.weigh s.lexemes s.closed is.closed in
+      let none = head_tells_none is in
       record {
-        below = head_below s.file s.choice.weigh s.lexemes s.closed is.named is.closed (is.lexemes.all ∙ sym is.named.is.tokens);
+        below = head_below s is;
         told = record {
           part_is = none.part;
           sizes_are = none.sizes;
@@ -50,15 +50,15 @@ module _ {s : Setting} (is : IsSetting s) where
 
   head_is_fine : AreFine (by s) [] Head
   head_is_fine =
-      let zip = head_zip s.file is.named s.choice.weigh s.lexemes s.closed is.closed in
+      let zip = head_zip is in
       let as_many = length_zip (IsHeadLine s.file) (whole_head s.file.grammar) Head zip in
       let front = table_lines s.file s.choice.weigh s.lexemes in
-      let front_many = length_zip (IsHeadLine s.file) (tables s.file.grammar) front (tables_zip s.file is.named s.choice.weigh s.lexemes s.closed is.closed) in
+      let front_many = length_zip (IsHeadLine s.file) (tables s.file.grammar) front (tables_zip is) in
       let set = set_line Productive s.file s.closed.productive in
       let rest = set_line Reachable s.file s.closed.reachable ∷ set_line Empty s.file s.closed.empty ∷ row_lines s.file s.closed in
       head_fine (by s) Head
       (λ pre l post e. head_within s.file.grammar front set rest pre (l ∷ post) front_many as_many refl e) as_many
-      (λ sets claimed. exact_closed s.file.grammar sets (claimed_exact s.file is.named s.closed is.closed Head (head_told s.file s.choice.weigh s.lexemes s.closed is.named) sets claimed)) zip
+      (λ sets claimed. exact_closed s.file.grammar sets (claimed_exact s.file is.named s.closed is.closed Head (head_told s is) sets claimed)) zip
 
   head_progress : IsProgress s Head Nothing
   head_progress = record { shown = in_head; starts = head_starts; sizes = []; told = head_above; sized = tt; of = refl }
