@@ -162,29 +162,17 @@ module _ (s : Setting) where
   any_more [] l e = absurd cc
   any_more (x ∷ xs) l e = or_more (is_set x) (list_any is_set xs) (list_any is_set (xs ++ l ∷ [])) e (any_more xs l)
 
-  none_productive : (l : Line) → is_head l ≡ false → set_in Productive l ≡ None
-  none_productive (SetLine kind names) e = absurd cc
-  none_productive l e = refl
+  none_set : (kind : SetKind) (l : Line) → is_head l ≡ false → set_in kind l ≡ None
+  none_set kind (SetLine other names) e = absurd cc
+  none_set Productive l e = refl
+  none_set Reachable l e = refl
+  none_set Empty l e = refl
 
-  none_reachable : (l : Line) → is_head l ≡ false → set_in Reachable l ≡ None
-  none_reachable (SetLine kind names) e = absurd cc
-  none_reachable l e = refl
-
-  none_empty : (l : Line) → is_head l ≡ false → set_in Empty l ≡ None
-  none_empty (SetLine kind names) e = absurd cc
-  none_empty l e = refl
-
-  none_first : (l : Line) → is_head l ≡ false → row_in First l ≡ None
-  none_first (RowLine kind name names) e = absurd cc
-  none_first l e = refl
-
-  none_last : (l : Line) → is_head l ≡ false → row_in Last l ≡ None
-  none_last (RowLine kind name names) e = absurd cc
-  none_last l e = refl
-
-  none_next : (l : Line) → is_head l ≡ false → row_in Next l ≡ None
-  none_next (RowLine kind name names) e = absurd cc
-  none_next l e = refl
+  none_row : (kind : RowKind) (l : Line) → is_head l ≡ false → row_in kind l ≡ None
+  none_row kind (RowLine other name names) e = absurd cc
+  none_row First l e = refl
+  none_row Last l e = refl
+  none_row Next l e = refl
 
   none_weigh : (l : Line) → is_head l ≡ false → weigh_in l ≡ None
   none_weigh (Weighing w) e = absurd cc
@@ -197,12 +185,12 @@ module _ (s : Setting) where
   pub below_more : (above : List Line) (l : Line) → is_head l ≡ false → IsBelow above → IsBelow (above ++ l ∷ [])
   below_more above l behind b = record {
     told = record {
-      productive = kept (set_in Productive) above l (none_productive l behind) ∙ b.told.productive;
-      reachable = kept (set_in Reachable) above l (none_reachable l behind) ∙ b.told.reachable;
-      empty = kept (set_in Empty) above l (none_empty l behind) ∙ b.told.empty;
-      first = kept (row_in First) above l (none_first l behind) ∙ b.told.first;
-      last = kept (row_in Last) above l (none_last l behind) ∙ b.told.last;
-      next = kept (row_in Next) above l (none_next l behind) ∙ b.told.next;
+      productive = kept (set_in Productive) above l (none_set Productive l behind) ∙ b.told.productive;
+      reachable = kept (set_in Reachable) above l (none_set Reachable l behind) ∙ b.told.reachable;
+      empty = kept (set_in Empty) above l (none_set Empty l behind) ∙ b.told.empty;
+      first = kept (row_in First) above l (none_row First l behind) ∙ b.told.first;
+      last = kept (row_in Last) above l (none_row Last l behind) ∙ b.told.last;
+      next = kept (row_in Next) above l (none_row Next l behind) ∙ b.told.next;
     };
     weighed = kept weigh_in above l (none_weigh l behind) ∙ b.weighed;
     texts = kept text_in above l (none_text l behind) ∙ b.texts;

@@ -35,6 +35,7 @@ pub record IsSetting (s : Setting) : Type 0 where
   pub lexemes : AreLexemes s.texts.scanning s.file.grammar.tokens s.lexemes
   pub closed : AreClosedSets s.file.grammar s.closed
 
+-- what its suite is checked by
 abbrev pub by : Setting → Checked
 by s = checked s.file s.texts
 

@@ -17,16 +17,14 @@ use Rattle.cs_check.specs.Passing.Faults.{counted}
 use Rattle.cs_accord.specs.Suite.{verdict_of}
 use Rattle.cs_accord.proofs.OnSuite.Setting.{Setting, Body, IsBody, counts_in, words_told}
 
--- an entry and its words are of one verdict
-record IsAlike (e : GoalEntry) (s : SharedEntry) : Type 0 where
-  feasible : put.is_feasible e.verdict ≡ is_feasible (verdict_of s.verdict)
-  infeasible : put.is_infeasible e.verdict ≡ is_infeasible (verdict_of s.verdict)
-  large : put.is_large e.verdict ≡ is_large (verdict_of s.verdict)
-
+-- a verdict and its words are alike
 record IsAlikeVerdict (v : Verdict) (sv : SharedVerdict) : Type 0 where
   feasible : put.is_feasible v ≡ is_feasible (verdict_of sv)
   infeasible : put.is_infeasible v ≡ is_infeasible (verdict_of sv)
   large : put.is_large v ≡ is_large (verdict_of sv)
+
+abbrev IsAlike : GoalEntry → SharedEntry → Type 0
+IsAlike e s = IsAlikeVerdict e.verdict s.verdict
 
 alike : (old new : PlainCases) (goal : Goal) (v : Verdict) (sv : SharedVerdict) → IsSharedVerdict old goal v new sv → IsAlikeVerdict v sv
 alike old new goal (verdict.Feasible m derivation) sv h = subst (IsAlikeVerdict (verdict.Feasible m derivation)) (sym h.1) (record { feasible = refl; infeasible = refl; large = refl })
@@ -36,9 +34,7 @@ alike old new goal verdict.Large sv h = subst (IsAlikeVerdict verdict.Large) (sy
 all_alike : (texts : Option Texts) (lexemes : Option LexemeList) (old : PlainCases) (entries : List GoalEntry) (new : PlainCases) (list : List SharedEntry) → AreShared texts lexemes old entries new list → AllZip IsAlike entries list
 all_alike texts lexemes old [] new list h = subst (λ (l : List SharedEntry). AllZip IsAlike [] l) (sym h.0) tt
 all_alike texts lexemes old (e ∷ entries) new list h =
-    let a = alike old h.0 e.goal e.verdict h.1.verdict h.4.verdict in
-    subst (λ (l : List SharedEntry). AllZip IsAlike (e ∷ entries) l) (sym h.3)
-    (record { feasible = a.feasible; infeasible = a.infeasible; large = a.large }, all_alike texts lexemes h.0 entries new h.2 h.5)
+    subst (λ (l : List SharedEntry). AllZip IsAlike (e ∷ entries) l) (sym h.3) (alike old h.0 e.goal e.verdict h.1.verdict h.4.verdict, all_alike texts lexemes h.0 entries new h.2 h.5)
 
 module _ (one : GoalEntry → Bool) (other : VerdictWords → Bool) (same : (e : GoalEntry) (s : SharedEntry) → IsAlike e s → one e ≡ other (verdict_of s.verdict)) where
   same_count : (entries : List GoalEntry) (list : List SharedEntry) → AllZip IsAlike entries list → count_by one entries ≡ count_by other (map (λ (s : SharedEntry). verdict_of s.verdict) list)
