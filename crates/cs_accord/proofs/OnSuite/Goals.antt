@@ -86,7 +86,7 @@ module _ {s : Setting} (is : IsSetting s) {above : List Line} {p : Progress} (so
     progress = record { shown = of_goal; starts = goal_starts; sizes = so.sizes; told = b.told; sized = so.sized; of = so.of };
   }
 
-  module _ {new : PlainCases} (k : Picked) (pick : IsPicked s p.cases new goal k) where
+  module _ {new : PlainCases} {k : Picked} (pick : IsPicked s p.cases new goal k) where
     abbrev Words : VerdictWords
     Words = Feasible k.size k.name.case k.name.first
 
@@ -154,8 +154,8 @@ module _ {s : Setting} (is : IsSetting s) {above : List Line} {p : Progress} (so
     by_fresh rendered false fresh text = with_none fresh
 
 -- one entry of the list
-module _ {s : Setting} (is : IsSetting s) {above : List Line} {p : Progress} (so : IsProgress s above p) (e : GoalEntry) (due : IsDue s.file p.goals (words_of s.file e.goal) e.goal)
-    (known : IsKnownEntry s e) (sh : SharedEntry) where
+module _ {s : Setting} (is : IsSetting s) {above : List Line} {p : Progress} (so : IsProgress s above p) {e : GoalEntry} (known : IsKnownEntry s e)
+    (due : IsDue s.file p.goals (words_of s.file e.goal) e.goal) (sh : SharedEntry) where
   -- what comes of it, if this is its verdict, that in the second format, and the cases behind it
   abbrev Comes : Verdict → SharedVerdict → PlainCases → Type 0
   Comes v sv cases =
@@ -170,7 +170,7 @@ module _ {s : Setting} (is : IsSetting s) {above : List Line} {p : Progress} (so
       let k : Picked = record { size = m; derivation = derivation; tokens = e.tokens; name = h.0 } in
       let pick : IsPicked s p.cases new e.goal k = record { verdict = v; placed = h.2; yields = yields } in
       let text_here = subst (λ (x : SharedVerdict). IsRenderedIf (is_new x) (Some s.texts) (Some s.lexemes) e.tokens sh.rendered) h.1 text in
-      subst (λ (x : SharedVerdict). Comes (verdict.Feasible m derivation) x new) (sym h.1) (by_fresh is so due k pick sh.rendered h.0.fresh refl text_here)
+      subst (λ (x : SharedVerdict). Comes (verdict.Feasible m derivation) x new) (sym h.1) (by_fresh is so due pick sh.rendered h.0.fresh refl text_here)
   step new verdict.Infeasible v yields h text =
       subst (λ (x : SharedVerdict). Comes verdict.Infeasible x new) (sym h.0)
       (subst (λ (x : PlainCases). Comes verdict.Infeasible shared.Infeasible x) (sym h.1)
@@ -200,7 +200,7 @@ module _ {s : Setting} (is : IsSetting s) where
       let sh = h.1 in
       let others = h.2 in
       let lines = entry_lines s.file (length p.goals + 1) sh in
-      let one = entry_step is so e due.0 known.0 sh h.4 in
+      let one = entry_step is so known.0 due.0 sh h.4 in
       let w = words_of s.file e.goal in
       let behind = λ (n : ℕ). numbered n (entry_lines s.file) others in
       let next = length (p.goals ++ w ∷ []) + 1 in

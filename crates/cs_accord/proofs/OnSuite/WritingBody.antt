@@ -174,45 +174,45 @@ record IsEntryWritten (k : ℕ) (new : PlainCases) (bytes : List ℕ) (lines : L
   written : Writes bytes lines
   few : length new.codes ≤ k + 1
 
-module _ {s : Setting} (is : IsSetting s) {k : ℕ} {old : PlainCases} (before : IsRoom k old) (new : PlainCases) (goal : Goal) (is_goal : IsGoal s.file.grammar goal) where
+module _ {s : Setting} (is : IsSetting s) {k : ℕ} {old : PlainCases} (before : IsRoom k old) {e : GoalEntry} (known : IsKnownEntry s e) where
   -- an entry's bytes and lines, where these are those of its case
-  abbrev Entry : List ℕ → List Line → SharedVerdict → Type 0
-  Entry bytes lines sv = IsEntryWritten k new (bytes ++ put_shared.shared_goal_line s.file (k + 1) goal sv) (lines ++ GoalLine (k + 1) (words_of s.file goal) (verdict_of sv) ∷ [])
+  abbrev Entry : PlainCases → List ℕ → List Line → SharedVerdict → Type 0
+  Entry new bytes lines sv = IsEntryWritten k new (bytes ++ put_shared.shared_goal_line s.file (k + 1) e.goal sv) (lines ++ GoalLine (k + 1) (words_of s.file e.goal) (verdict_of sv) ∷ [])
 
-  with_goal : (bytes : List ℕ) (lines : List Line) (sv : SharedVerdict) → Writes bytes lines → IsSmallVerdict s.file sv → length new.codes ≤ k + 1 → Entry bytes lines sv
-  with_goal bytes lines sv written small short = record {
+  with_goal : (new : PlainCases) {bytes : List ℕ} {lines : List Line} (sv : SharedVerdict) → Writes bytes lines → IsSmallVerdict s.file sv → length new.codes ≤ k + 1 → Entry new bytes lines sv
+  with_goal new {bytes} {lines} sv written small short = record {
     written =
         let room = before.room in
-        writes_both bytes (put_shared.shared_goal_line s.file (k + 1) goal sv) lines (GoalLine (k + 1) (words_of s.file goal) (verdict_of sv) ∷ []) written
-        (writes_one (put_shared.shared_goal_line s.file (k + 1) goal sv) (GoalLine (k + 1) (words_of s.file goal) (verdict_of sv))
-        (says_goal s.file (k + 1) goal sv (omega (arith, room)) (small_goal is goal is_goal) small) (goal_sayable is (k + 1) goal (verdict_of sv) is_goal));
+        writes_both bytes (put_shared.shared_goal_line s.file (k + 1) e.goal sv) lines (GoalLine (k + 1) (words_of s.file e.goal) (verdict_of sv) ∷ []) written
+        (writes_one (put_shared.shared_goal_line s.file (k + 1) e.goal sv) (GoalLine (k + 1) (words_of s.file e.goal) (verdict_of sv))
+        (says_goal s.file (k + 1) e.goal sv (omega (arith, room)) (small_goal is e.goal known.is_goal) small) (goal_sayable is (k + 1) e.goal (verdict_of sv) known.is_goal));
     few = short;
   }
 
-  module _ (q : Picked) (pick : IsPicked s old new goal q) where
+  module _ {new : PlainCases} {q : Picked} (pick : IsPicked s old new e.goal q) where
     small_verdict : length new.codes ≤ k + 1 → IsSmallVerdict s.file (shared.Feasible q.size q.name)
     small_verdict short =
-        let few = (shown_by (measure s) s.file.grammar goal q.size q.derivation pick.verdict).few in
+        let few = (shown_by (measure s) s.file.grammar e.goal q.size q.derivation pick.verdict).few in
         let limit = few_limit s.choice.weigh s.file.grammar.tokens s.lexemes in
         let room = before.room in
         (omega (arith, few, limit), omega (arith, case_within pick.placed, short, room), omega (arith, first_within pick.placed, short, room))
 
     fresh_written : (rendered : Option Rendering) (b : Bool) → q.name.fresh ≡ b → IsRenderedIf b (Some s.texts) (Some s.lexemes) q.tokens rendered
-        → Entry (cond b (put_shared.case_lines s.file q.name.case q.size q.derivation q.tokens rendered) []) (cond b (case_lines s.file q.name.case q.size q.derivation q.tokens rendered) []) (shared.Feasible q.size q.name)
+        → Entry new (cond b (put_shared.case_lines s.file q.name.case q.size q.derivation q.tokens rendered) []) (cond b (case_lines s.file q.name.case q.size q.derivation q.tokens rendered) []) (shared.Feasible q.size q.name)
     fresh_written rendered true fresh text =
         let more = ap (λ (l : List (List ℕ)). length l) (fresh_codes pick.placed fresh) in
         let longer = length-append old.codes (q.derivation ∷ []) in
         let few = before.few in
         let short : length new.codes ≤ k + 1 = omega (arith, more, longer, few) in
         let small = small_verdict short in
-        let shown = shown_by (measure s) s.file.grammar goal q.size q.derivation pick.verdict in
-        let most = few_tokens (measure s) (is_measure s.choice.weigh s.file.grammar.tokens s.lexemes) s.file.grammar goal q.size q.derivation q.tokens pick.verdict pick.yields in
+        let shown = shown_by (measure s) s.file.grammar e.goal q.size q.derivation pick.verdict in
+        let most = few_tokens (measure s) (is_measure s.choice.weigh s.file.grammar.tokens s.lexemes) s.file.grammar e.goal q.size q.derivation q.tokens pick.verdict pick.yields in
         let w : AreWritten s q.tokens = record { numbers = IsNumberOf-IsYield s.file.grammar is.named.is.grammar q.derivation q.tokens pick.yields; few = omega (arith, most) } in
         let r = rendering_written is q.tokens rendered w text in
         let rules : AllByRecursion IsSmall q.derivation =
         weaker (IsNumberOf (length s.file.grammar.rules)) IsSmall (λ x number. let rules_few = is.named.is.grammar.few in omega (arith, number.1, rules_few)) q.derivation
         (subst (AllByRecursion (IsNumberOf (length s.file.grammar.rules))) (sym shown.code_is) (rules_of_tree s.file.grammar shown.tree _ shown.is_tree)) in
-        with_goal (put_shared.case_lines s.file q.name.case q.size q.derivation q.tokens rendered) (case_lines s.file q.name.case q.size q.derivation q.tokens rendered) (shared.Feasible q.size q.name)
+        with_goal new (shared.Feasible q.size q.name)
         (writes_case s.file q.name.case q.size q.derivation q.tokens rendered (record { number = small.1; fits = small.0; few = rules; text = r.small })
         (case_sayable is q.name.case q.size q.derivation q.tokens rendered w r.sayable))
         small short
@@ -220,9 +220,9 @@ module _ {s : Setting} (is : IsSetting s) {k : ℕ} {old : PlainCases} (before :
         let same = ap (λ (l : List (List ℕ)). length l) (same_codes pick.placed fresh) in
         let few = before.few in
         let short : length new.codes ≤ k + 1 = omega (arith, same, few) in
-        with_goal [] [] (shared.Feasible q.size q.name) writes_none (small_verdict short) short
+        with_goal new (shared.Feasible q.size q.name) writes_none (small_verdict short) short
 
-module _ {s : Setting} (is : IsSetting s) {k : ℕ} {old : PlainCases} (before : IsRoom k old) (e : GoalEntry) (known : IsKnownEntry s e) (sh : SharedEntry) where
+module _ {s : Setting} (is : IsSetting s) {k : ℕ} {old : PlainCases} (before : IsRoom k old) {e : GoalEntry} (known : IsKnownEntry s e) (sh : SharedEntry) where
   -- what is written, if this is its verdict, and that in the second format
   abbrev Comes : PlainCases → Verdict → SharedVerdict → Type 0
   Comes new v sv =
@@ -235,15 +235,15 @@ module _ {s : Setting} (is : IsSetting s) {k : ℕ} {old : PlainCases} (before :
       let q : Picked = record { size = m; derivation = derivation; tokens = e.tokens; name = h.0 } in
       let pick : IsPicked s old new e.goal q = record { verdict = v; placed = h.2; yields = yields } in
       let text_here = subst (λ (x : SharedVerdict). IsRenderedIf (is_new x) (Some s.texts) (Some s.lexemes) e.tokens sh.rendered) h.1 text in
-      subst (λ (x : SharedVerdict). Comes new (verdict.Feasible m derivation) x) (sym h.1) (fresh_written is before new e.goal known.is_goal q pick sh.rendered h.0.fresh refl text_here)
+      subst (λ (x : SharedVerdict). Comes new (verdict.Feasible m derivation) x) (sym h.1) (fresh_written is before known pick sh.rendered h.0.fresh refl text_here)
   step_written new verdict.Infeasible v yields h text =
       let same = ap (λ (c : PlainCases). length c.codes) h.1 in
       let few = before.few in
-      subst (λ (x : SharedVerdict). Comes new verdict.Infeasible x) (sym h.0) (with_goal is before new e.goal known.is_goal [] [] shared.Infeasible writes_none tt (omega (arith, same, few)))
+      subst (λ (x : SharedVerdict). Comes new verdict.Infeasible x) (sym h.0) (with_goal is before known new shared.Infeasible writes_none tt (omega (arith, same, few)))
   step_written new verdict.Large v yields h text =
       let same = ap (λ (c : PlainCases). length c.codes) h.1 in
       let few = before.few in
-      subst (λ (x : SharedVerdict). Comes new verdict.Large x) (sym h.0) (with_goal is before new e.goal known.is_goal [] [] shared.Large writes_none tt (omega (arith, same, few)))
+      subst (λ (x : SharedVerdict). Comes new verdict.Large x) (sym h.0) (with_goal is before known new shared.Large writes_none tt (omega (arith, same, few)))
 
   entry_written : {new : PlainCases} → IsShared (Some s.texts) (Some s.lexemes) old e new sh → IsEntryWritten k new (shared_entry_lines s.file (k + 1) sh) (entry_lines s.file (k + 1) sh)
   entry_written {new} h =
@@ -260,7 +260,7 @@ module _ {s : Setting} (is : IsSetting s) where
       let sh = h.1 in
       let others = h.2 in
       let before : IsRoom k old = record { few = few; room = omega (arith, room) } in
-      let one = entry_written is before e known.0 sh h.4 in
+      let one = entry_written is before known.0 sh h.4 in
       let rest = entries_written (k + 1) mid new one.few entries (omega (arith, room)) known.1 others h.5 in
       subst (λ (l : List SharedEntry). Writes (numbered_from (k + 1) (shared_entry_lines s.file) l) (numbered (k + 1) (entry_lines s.file) l)) (sym h.3)
       (writes_both (shared_entry_lines s.file (k + 1) sh) (numbered_from (k + 1 + 1) (shared_entry_lines s.file) others) (entry_lines s.file (k + 1) sh) (numbered (k + 1 + 1) (entry_lines s.file) others) one.written rest)
