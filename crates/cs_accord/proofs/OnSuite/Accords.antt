@@ -35,12 +35,12 @@ module _ (s : Setting) where
       let own = subst (λ (x : Goal). IsGoal s.file.grammar x × IsEntryOf (weighed_by s.choice s.file (Some s.lexemes)) (goal_texts s.choice) (Some s.lexemes) x e) (sym zip.0.is_of) (each goal (inl refl), zip.0) in
       (record { is_goal = own.0; verdict = own.1.verdict; tokens = own.1.tokens }, entries_known gs entries (λ other among. each other (inr among)) zip.1)
 
-module _ (texts : Texts) (choice : Choice) (file : File) (text : List ℕ) (named : IsNamedFile file) (by : IsSuiteBy texts choice) where
-  of_parts : (lexemes : Option LexemeList) (entries : List GoalEntry) (mutants : List BaseEntry) → AreLexemesBy (Some texts) file.grammar.tokens lexemes
+module _ {texts : Texts} {choice : Choice} {file : File} (named : IsNamedFile file) (by : IsSuiteBy texts choice) where
+  of_parts : (lexemes : Option LexemeList) {entries : List GoalEntry} {mutants : List BaseEntry} {text : List ℕ} → AreLexemesBy (Some texts) file.grammar.tokens lexemes
       → EntriesOf (weighed_by choice file lexemes) (goal_texts choice) lexemes (goals file.grammar choice.criteria) entries
       → BasesOf file.grammar choice lexemes [] (bases (most_bases choice) entries) mutants → IsSharedText choice file lexemes entries mutants text → Passes (checked file texts) text
-  of_parts None entries mutants are verdicts negatives lines = absurd are
-  of_parts (Some lexemes) entries mutants are verdicts negatives lines =
+  of_parts None are verdicts negatives lines = absurd are
+  of_parts (Some lexemes) {entries} {mutants} {text} are verdicts negatives lines =
       let s : Setting = record { file = file; choice = choice; texts = texts; lexemes = lexemes; closed = lines.closed } in
       let is : IsSetting s = record { named = named; texts_are = by.texts_are; separator = by.separator; lexemes = are; closed = lines.are_closed } in
       let gs = goals file.grammar choice.criteria in
@@ -57,6 +57,6 @@ module _ (texts : Texts) (choice : Choice) (file : File) (text : List ℕ) (name
 
 pub suite_passes : (file : File) → IsNamedFile file → SuitesPass file
 suite_passes file named texts choice text by m =
-    of_parts texts choice file text named by m.lexemes m.entries m.mutants
+    of_parts named by m.lexemes
     (subst (λ (o : Option Texts). AreLexemesBy o file.grammar.tokens m.lexemes) by.texts_are m.are_lexemes) m.verdicts m.negatives
     (subst (λ (f : Format). IsTextIn f choice file m.lexemes m.entries m.mutants text) by.format m.lines)

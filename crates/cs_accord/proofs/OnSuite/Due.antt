@@ -13,6 +13,7 @@ use Rattle.cs_yacc.specs.Reading.File.{File}
 use Rattle.cs_lines.specs.Lines.Line.{GoalWords, OfRule, OfContext, OfPair}
 use Rattle.cs_check.specs.Passing.Goals.{words_of, criterion, list_of, told, last_goal, IsDue, MayFollow, AreFinished, AreFinishedBehind, IsAtEnd}
 use Rattle.cs_check.proofs.OnDueGoals.{last_told, same_list, same_told, told_more, told_still}
+use Rattle.cs_accord.proofs.OnSuite.Lists.{seam}
 
 module _ (file : File) where
   -- these goals are due one behind the other, below those
@@ -73,10 +74,6 @@ module _ (file : File) where
     is : o ≡ Some words
     same : criterion words ≡ criterion w
 
-  at_seam : (xs : List Goal) (x : Goal) (ys : List Goal) → slice_get (xs ++ x ∷ ys) (length xs) ≡ Some x
-  at_seam [] x ys = refl
-  at_seam (y ∷ xs) x ys = at_seam xs x ys
-
   -- behind all goals of the criterion
   record IsThrough (w : GoalWords) (before above : List GoalWords) : Type 0 where
     all : told above w ≡ length (list_of file.grammar w)
@@ -91,7 +88,7 @@ module _ (file : File) where
       next =
           ap (λ (l : List Goal). slice_get l (told above (words_of file goal))) (same_list file.grammar (words_of file goal) w kind ∙ place)
           ∙ ap (slice_get (pre ++ goal ∷ rest)) (same_told above (words_of file goal) w kind ∙ many)
-          ∙ at_seam pre goal rest;
+          ∙ seam pre goal rest;
       are_words = refl;
     }
 

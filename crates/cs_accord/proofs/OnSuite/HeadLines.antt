@@ -16,6 +16,7 @@ use Rattle.cs_check.specs.Checking.Judging.{IsRight}
 use Rattle.cs_check.proofs.OnChecking.HeadPlaces.{size_with, size_without, tables_within}
 use Rattle.cs_check.proofs.OnChecking.Kinds.{taken_head, right_head}
 use Rattle.cs_accord.proofs.OnSuite.Fine.{AreFine}
+use Rattle.cs_accord.proofs.OnSuite.Lists.{seam}
 
 -- the line is one for this place, and the file's
 pub record IsHeadLine (file : File) (due : Due) (l : Line) : Type 0 where
@@ -61,14 +62,13 @@ module _ (g : PlainGrammar) where
 
 -- ---- the lines of the head
 
-module _ (c : Checked) (head : List Line)
-    (within : (pre : List Line) (l : Line) (post : List Line) → head ≡ pre ++ l ∷ post → length pre ≤ head_size c.file.grammar pre)
-    (all : length head ≡ length (whole_head c.file.grammar))
-    (closed : (s : PlainSets) → AreClaimed c.file head s → AreClosed c.file.grammar s) where
-  seam : {A : Type 0} (xs : List A) (x : A) (ys : List A) → slice_get (xs ++ x ∷ ys) (length xs) ≡ Some x
-  seam [] x ys = refl
-  seam (y ∷ xs) x ys = seam xs x ys
+-- no line comes too late, the lines are as many as are due, and sets that they claim are closed
+pub record IsHead (c : Checked) (head : List Line) : Type 0 where
+  pub within : (pre : List Line) (l : Line) (post : List Line) → head ≡ pre ++ l ∷ post → length pre ≤ head_size c.file.grammar pre
+  pub all : length head ≡ length (whole_head c.file.grammar)
+  pub closed : (s : PlainSets) → AreClaimed c.file head s → AreClosed c.file.grammar s
 
+module _ {c : Checked} {head : List Line} (known : IsHead c head) where
   none_behind : {A : Type 0} (xs : List A) → length xs ≡ 0 → xs ≡ []
   none_behind [] e = refl
   none_behind (x ∷ xs) e = absurd (omega (arith, e))
@@ -76,14 +76,15 @@ module _ (c : Checked) (head : List Line)
   head_right : (above : List Line) (l : Line) (below : List Line) (due : Due) → head ≡ above ++ l ∷ below → IsHeadLine c.file due l → slice_get (whole_head c.file.grammar) (length above) ≡ Some due → IsRight c above l
   head_right above l below due place is at =
       right_head c above l (taken_head due l is.takes)
-      (inl (record { within = within above l below place; due = due; is_due = at; takes = is.takes }))
+      (inl (record { within = known.within above l below place; due = due; is_due = at; takes = is.takes }))
       (λ h. subst (λ (d : Due). IsOfFile c.file d l) (same_Some due h.due (sym at ∙ h.is_due)) is.of_file)
       (λ h last s claimed.
       let whole = ap (λ (x : List Line). length x) place in
       let long = length-append above (l ∷ below) in
+      let all = known.all in
       let none : length below ≡ 0 = omega (arith, whole, long, all, last) in
       let same : head ≡ above ++ l ∷ [] = place ∙ ap (λ (x : List Line). above ++ l ∷ x) (none_behind below none) in
-      closed s (subst (λ (x : List Line). AreClaimed c.file x s) (sym same) claimed))
+      known.closed s (subst (λ (x : List Line). AreClaimed c.file x s) (sym same) claimed))
 
   fine_from : (above : List Line) (front dues : List Due) (rest : List Line) → head ≡ above ++ rest → whole_head c.file.grammar ≡ front ++ dues → length front ≡ length above → AllZip (IsHeadLine c.file) dues rest → AreFine c above rest
   fine_from above front [] [] place dues_are many zip = tt

@@ -9,6 +9,10 @@ use Rattle.cs_grammar.specs.Entries.{entry_or}
 use Rattle.cs_lines.specs.Lines.Line.{Line}
 use Rattle.cs_accord.specs.Suite.{numbered}
 
+pub seam : {A : Type 0} (xs : List A) (x : A) (ys : List A) → slice_get (xs ++ x ∷ ys) (length xs) ≡ Some x
+seam [] x ys = refl
+seam (y ∷ xs) x ys = seam xs x ys
+
 module _ {X : Type 0} (h : Line → Option X) where
   pub told_both : (xs ys : List Line) (a b : List X) → filter_map h xs ≡ a → filter_map h ys ≡ b → filter_map h (xs ++ ys) ≡ a ++ b
   told_both xs ys a b e f = filter_map-append h xs ys ∙ ap (λ (l : List X). l ++ filter_map h ys) e ∙ ap (λ (l : List X). a ++ l) f

@@ -8,6 +8,7 @@ use Rattle.cs_check.specs.Passing.Above.{size_in, derivation_in, goal_in, verdic
 use Rattle.cs_check.specs.Passing.Entries.{IsNumbered, IsLast}
 use Rattle.cs_check.specs.Passing.Places.{part_of, last_part}
 use Rattle.cs_check.proofs.OnChecking.Told.{kept, added, last_part_more}
+use Rattle.cs_accord.proofs.OnSuite.Lists.{seam}
 
 -- lines of which the last stands in this part of a manifest
 abbrev pub in_head : List Line
@@ -96,16 +97,12 @@ told_line above c t l shown is = record {
 
 -- ---- entries by number
 
-at_end : {A : Type 0} (xs : List A) (x : A) → slice_get (xs ++ x ∷ []) (length xs) ≡ Some x
-at_end [] x = refl
-at_end (y ∷ xs) x = at_end xs x
-
 -- the last of a list
 pub is_last : {A : Type 0} (xs : List A) (x : A) → IsLast (xs ++ x ∷ []) x
 is_last xs x =
     let long = length-append xs (x ∷ []) in
     let back : length xs ≡ length (xs ++ x ∷ []) - 1 = omega (arith, long) in
-    (omega (arith, long), ap (slice_get (xs ++ x ∷ [])) (sym back) ∙ at_end xs x)
+    (omega (arith, long), ap (slice_get (xs ++ x ∷ [])) (sym back) ∙ seam xs x [])
 
 -- an entry stays where more come
 pub still_at : {A : Type 0} (xs ys : List A) (k : ℕ) (x : A) → slice_get xs k ≡ Some x → slice_get (xs ++ ys) k ≡ Some x

@@ -18,7 +18,7 @@ use Rattle.cs_accord.proofs.OnSuite.Entries.{sized_many}
 use Rattle.cs_accord.proofs.OnSuite.Fine.{AreFine}
 use Rattle.cs_accord.proofs.OnSuite.Goals.{Progress, IsProgress, content_of, head_starts, through, with_all}
 use Rattle.cs_accord.proofs.OnSuite.Head.{head_zip, tables_zip, head_tells_none}
-use Rattle.cs_accord.proofs.OnSuite.HeadLines.{IsHeadLine, head_fine, head_within}
+use Rattle.cs_accord.proofs.OnSuite.HeadLines.{IsHeadLine, IsHead, head_fine, head_within}
 use Rattle.cs_accord.proofs.OnSuite.HeadTold.{head_below, head_told}
 use Rattle.cs_accord.proofs.OnSuite.Setting.{Setting, IsSetting, Body, IsBody, by, counts_in, told_measure}
 use Rattle.cs_accord.proofs.OnSuite.Telling.{in_head, of_end}
@@ -56,9 +56,12 @@ module _ {s : Setting} (is : IsSetting s) where
       let front_many = length_zip (IsHeadLine s.file) (tables s.file.grammar) front (tables_zip is) in
       let set = set_line Productive s.file s.closed.productive in
       let rest = set_line Reachable s.file s.closed.reachable ∷ set_line Empty s.file s.closed.empty ∷ row_lines s.file s.closed in
-      head_fine (by s) Head
-      (λ pre l post e. head_within s.file.grammar front set rest pre (l ∷ post) front_many as_many refl e) as_many
-      (λ sets claimed. exact_closed s.file.grammar sets (claimed_exact s.file is.named s.closed is.closed Head (head_told s is) sets claimed)) zip
+      let known : IsHead (by s) Head = record {
+        within = λ pre l post e. head_within s.file.grammar front set rest pre (l ∷ post) front_many as_many refl e;
+        all = as_many;
+        closed = λ sets claimed. exact_closed s.file.grammar sets (claimed_exact s.file is.named s.closed is.closed Head (head_told s is) sets claimed);
+      } in
+      head_fine known zip
 
   head_progress : IsProgress s Head Nothing
   head_progress = record { shown = in_head; starts = head_starts; sizes = []; told = head_above; sized = tt; of = refl }
