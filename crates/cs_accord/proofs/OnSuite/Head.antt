@@ -33,6 +33,7 @@ use Rattle.cs_accord.proofs.OnSuite.Sets.{those_in}
 use Rattle.cs_accord.proofs.OnSuite.Claims.{mark_named}
 use Rattle.cs_accord.proofs.OnSuite.HeadLines.{IsHeadLine}
 use Rattle.cs_accord.proofs.OnSuite.Setting.{Setting, IsSetting}
+use Rattle.cs_accord.proofs.OnSuite.Telling.{Told, no_content}
 
 -- ---- lines of the head tell nothing else
 
@@ -55,7 +56,7 @@ stays (NegativeLine n base edit left right at) e = absurd cc
 stays (EndLine counts) e = absurd cc
 stays l e = refl
 
-pub head_part : (lines : List Line) → AllByRecursion (λ l. is_head l ≡ true) lines → last_part lines ≡ last_part []
+head_part : (lines : List Line) → AllByRecursion (λ l. is_head l ≡ true) lines → last_part lines ≡ last_part []
 head_part [] all = refl
 head_part (l ∷ lines) all = ap (λ p. fold part_of p lines) (stays l all.0) ∙ head_part lines all.1
 
@@ -84,24 +85,15 @@ no_edit (NegativeLine n base edit left right at) e = absurd cc
 no_edit l e = refl
 
 -- what stands behind the head is not told yet
-pub record TellsNone (lines : List Line) : Type 0 where
-  pub part : last_part lines ≡ last_part []
-  pub sizes : filter_map size_in lines ≡ []
-  pub derivations : filter_map derivation_in lines ≡ []
-  pub goals : filter_map goal_in lines ≡ []
-  pub verdicts : filter_map verdict_in lines ≡ []
-  pub bases : filter_map base_in lines ≡ []
-  pub edits : filter_map edit_in lines ≡ []
-
-pub tells_none : (lines : List Line) → AllByRecursion (λ l. is_head l ≡ true) lines → TellsNone lines
+tells_none : (lines : List Line) → AllByRecursion (λ l. is_head l ≡ true) lines → Told lines no_content
 tells_none lines all = record {
-  part = head_part lines all;
-  sizes = none_in size_in (λ l. is_head l ≡ true) no_size lines all;
-  derivations = none_in derivation_in (λ l. is_head l ≡ true) no_derivation lines all;
-  goals = none_in goal_in (λ l. is_head l ≡ true) no_goal lines all;
-  verdicts = none_in verdict_in (λ l. is_head l ≡ true) no_verdict lines all;
-  bases = none_in base_in (λ l. is_head l ≡ true) no_base lines all;
-  edits = none_in edit_in (λ l. is_head l ≡ true) no_edit lines all;
+  part_is = head_part lines all;
+  sizes_are = none_in size_in (λ l. is_head l ≡ true) no_size lines all;
+  codes_are = none_in derivation_in (λ l. is_head l ≡ true) no_derivation lines all;
+  goals_are = none_in goal_in (λ l. is_head l ≡ true) no_goal lines all;
+  words_are = none_in verdict_in (λ l. is_head l ≡ true) no_verdict lines all;
+  bases_are = none_in base_in (λ l. is_head l ≡ true) no_base lines all;
+  edits_are = none_in edit_in (λ l. is_head l ≡ true) no_edit lines all;
 }
 
 module _ {s : Setting} (is : IsSetting s) where
@@ -240,7 +232,7 @@ module _ {s : Setting} (is : IsSetting s) where
   pub head_zip : AllZip (IsHeadLine s.file) (whole_head s.file.grammar) (head_lines s.file s.choice.weigh s.lexemes s.closed)
   head_zip = zip_both (IsHeadLine s.file) (tables s.file.grammar) (claims s.file.grammar) (table_lines s.file s.choice.weigh s.lexemes) (closed_lines s.file s.closed) tables_zip zip_claims
 
-  pub head_tells_none : TellsNone (head_lines s.file s.choice.weigh s.lexemes s.closed)
+  pub head_tells_none : Told (head_lines s.file s.choice.weigh s.lexemes s.closed) no_content
   head_tells_none = tells_none (head_lines s.file s.choice.weigh s.lexemes s.closed) (heads_of s.file (whole_head s.file.grammar) (head_lines s.file s.choice.weigh s.lexemes s.closed) head_zip)
 
   -- ---- what the tables tell

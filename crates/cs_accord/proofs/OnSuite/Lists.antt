@@ -43,15 +43,6 @@ module _ {X : Type 0} (h : Line → Option X) where
       ap (λ (o : Option X). cons_option o (filter_map h (numbered (n + 1) (λ k y. f k y ∷ []) xs))) (each n x)
       ∙ ap (λ (l : List X). v n ∷ l) (told_numbers f v each (n + 1) xs)
 
-module _ (P : Line → Type 0) where
-  pub all_both : (xs ys : List Line) → AllByRecursion P xs → AllByRecursion P ys → AllByRecursion P (xs ++ ys)
-  all_both [] ys h k = k
-  all_both (x ∷ xs) ys h k = (h.0, all_both xs ys h.1 k)
-
-  pub all_numbered : {A : Type 0} (f : ℕ → A → List Line) → ((k : ℕ) (x : A) → AllByRecursion P (f k x)) → (n : ℕ) (xs : List A) → AllByRecursion P (numbered n f xs)
-  all_numbered f each n [] = tt
-  all_numbered f each n (x ∷ xs) = all_both (f n x) (numbered (n + 1) f xs) (each n x) (all_numbered f each (n + 1) xs)
-
 -- ---- partners by number
 
 module _ {A : Type 0} {B : Type 0} (R : B → Line → Type 0) where

@@ -20,7 +20,7 @@ use Rattle.cs_yacc.specs.Items.Bytes.{begins_name, is_name_byte}
 use Rattle.cs_yacc.specs.Items.Items.{IsName}
 use Rattle.cs_yacc.specs.Reading.File.{File}
 use Rattle.cs_lines.specs.Words.Words.{IsVisible, IsWord}
-use Rattle.cs_lines.specs.Words.Names.{token_text, token_of, nonterminal_of, symbol_text, mark_text, IsTokenNamed, IsNonterminalNamed, IsBehindNamed}
+use Rattle.cs_lines.specs.Words.Names.{token_text, token_of, nonterminal_of, symbol_text, mark_text, IsTokenNamed, IsNonterminalNamed}
 use Rattle.cs_lines.proofs.OnTexts.Quotes.{low_digit, high_digit, escaped_same}
 use Rattle.cs_accord.specs.Named.{IsTokenName, IsNamedFile}
 
@@ -181,12 +181,6 @@ not_end (Byte b) h e = let same : 39 ≡ 60 = ap (λ (l : List ℕ). get_or l 0 
 -- ---- the symbols of a file
 
 module _ (file : File) (named : IsNamedFile file) where
-  tokens_many : length file.token_names ≡ file.grammar.tokens
-  tokens_many = named.is.tokens
-
-  nonterminals_many : length file.nonterminal_names ≡ file.grammar.nonterminals
-  nonterminals_many = named.is.nonterminals
-
   -- the name of token t, by any other name
   token_is : (t : ℕ) → IsNumberOf file.grammar.tokens t → (d : TokenName) → token_of file t ≡ token_text (get_or file.token_names (t - 1) d)
   token_is t is d =
@@ -276,8 +270,3 @@ module _ (file : File) (named : IsNamedFile file) where
 
   pub token_no_end : (t : ℕ) → IsNumberOf file.grammar.tokens t → token_of file t ≡ codes "<end>" → ⊥
   token_no_end t is e = not_end (get_or file.token_names (t - 1) (Byte 0)) (token_name_is t is) (sym (token_is t is (Byte 0)) ∙ e)
-
-  pub behind_named : (m : Mark) → (m ≡ marks.Begin → ⊥) → IsMark m → IsBehindNamed file (mark_text file m) m
-  behind_named marks.Begin other is = absurd (other refl)
-  behind_named (marks.Token t) other is = token_named t is
-  behind_named marks.End other is = refl

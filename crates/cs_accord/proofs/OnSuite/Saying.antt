@@ -84,9 +84,6 @@ flat3 a b c = append_assoc a b c
 flat4 : (a b c d : List ℕ) → ((a ++ b) ++ c) ++ d ≡ a ++ (b ++ (c ++ d))
 flat4 a b c d = simp (append_assoc) refl
 
-flat5 : (a b c d e : List ℕ) → (((a ++ b) ++ c) ++ d) ++ e ≡ a ++ (b ++ (c ++ (d ++ e)))
-flat5 a b c d e = simp (append_assoc) refl
-
 flat7 : (a b c d e f h : List ℕ) → (((((a ++ b) ++ c) ++ d) ++ e) ++ f) ++ h ≡ a ++ (b ++ (c ++ (d ++ (e ++ (f ++ h)))))
 flat7 a b c d e f h = simp (append_assoc) refl
 

@@ -54,6 +54,9 @@ pub record Content : Type 0 where
   pub bases : List ℕ
   pub edits : List EditWords
 
+abbrev pub no_content : Content
+no_content = record { shown = []; sizes = []; codes = []; goals = []; words = []; bases = []; edits = [] }
+
 pub record Told (above : List Line) (c : Content) : Type 0 where
   pub part_is : last_part above ≡ last_part c.shown
   pub sizes_are : case_sizes above ≡ c.sizes

@@ -33,20 +33,7 @@ module _ {s : Setting} (is : IsSetting s) where
   Nothing = record { cases = no_cases s.file.grammar; goals = []; words = [] }
 
   head_above : IsAbove s Head (content_of Nothing in_head [])
-  head_above =
-      let none = head_tells_none is in
-      record {
-        below = head_below s is;
-        told = record {
-          part_is = none.part;
-          sizes_are = none.sizes;
-          codes_are = none.derivations;
-          goals_are = none.goals;
-          words_are = none.verdicts;
-          bases_are = none.bases;
-          edits_are = none.edits;
-        };
-      }
+  head_above = record { below = head_below s is; told = head_tells_none is }
 
   head_is_fine : AreFine (by s) [] Head
   head_is_fine =
@@ -71,11 +58,7 @@ module _ {s : Setting} (is : IsSetting s) where
     Lines = suite_lines s.file s.choice.weigh s.lexemes s.closed b.entries b.list (length b.cases.codes) b.mutants
 
     -- all lines lack each fault, and the last is the end line
-    pub record IsWholeFine : Type 0 where
-      pub fine : AreFine (by s) [] Lines
-      pub end : last_part Lines ≡ last_part of_end
-
-    pub whole_fine : IsWholeFine
+    pub whole_fine : AreFine (by s) [] Lines × (last_part Lines ≡ last_part of_end)
     whole_fine =
         let all = all_due s.file s.choice.criteria in
         let due = subst (λ (gs : List Goal). AreDue s.file [] gs × AreFinished s.file.grammar (words_in s.file gs)) body.goals_are all in
@@ -99,4 +82,4 @@ module _ {s : Setting} (is : IsSetting s) where
         }) in
         let last = end_fine two.told mutants_done.end due.1 (counts_in b) count in
         let whole = behind_both (Head ++ goal_lines ++ mutant_lines) (EndLine (counts_in b) ∷ []) two last in
-        record { fine = whole.fine; end = whole.told.told.part_is }
+        (whole.fine, whole.told.told.part_is)
