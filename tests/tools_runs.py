@@ -70,6 +70,7 @@ NOT_PLAIN = [
     ("%token «A-B\n%%\na : A-B ;", "names have no `-`"),
     ("«%tokn A\n%%\na : A ;", "%tokn is no directive that is known: write %token"),
     ("%%\na : «%token-x ;", "%token-x is no directive that is known"),
+    ("«@PURE@\n%%\ns : ;", "configure puts text in here"),
     ("%%\na : «'ab' ;", "a literal stands for one byte"),
     ("%%\na : «'' ;", "a literal stands for one byte"),
     ("%%\na : «'\\0' ;", "a literal stands for one byte"),
@@ -134,6 +135,7 @@ PLACES = [
     ("%%\ns : 'a' «: 'b' ;", "Syntax", "a left side is one name and one `:`"),
     ("%%\ns ::«= 'b' ;", "BadItem", "a left side is followed by `:` alone"),
     ("%%\ns : 'a' { } «: 'b' ;", "Syntax", "the left side, a name, is missing"),
+    ("%%\n«@PURE@\ns : ;", "BadItem", "configure puts text in here"),
     ("%%\ns «-> 'b' ;", "BadItem", "a left side is followed by `:` alone"),
     ("%%\n«<s> : 'b' ;", "Syntax", "behind %% comes the left side"),
     ("%%\ns : «%token A ;", "Syntax", "this directive stands before the first %%"),
@@ -228,6 +230,31 @@ LEX = "Unended Layout UnknownDirective UnknownOption StartCondition NoRules Dang
 ERROR_RULES = "%%\ns : 'a' | error | 'b' error 'c' ;\n"
 END = "end goals 1 feasible 1 infeasible 0 large 0 negatives 0\n"
 SCANNER = "%%\na return 'a';\n"
+# Scanners of two rules `A B` and `B`, the lines of texts that the program writes, and what is said of these.
+UNKNOWN = (
+    "no text is known of this token: no rule is understood to give it, or rules above take its texts (`conform lexical` tells)"
+)
+MISSING = [
+    ("a return A;\nb return B;\n[ ] ;\n", '  text "a b"\n  text "b"\n', ""),
+    (
+        "a return A;\nb return B;\n",
+        '  no text scan 1\n  text "b"\n',
+        "l.l: of 2 texts 1 missing\n  the joined lexemes scan to other tokens there: --separator= names other bytes between two\n",
+    ),
+    (
+        "a return T_A;\nb return B;\n[ ] ;\n",
+        '  no text lexeme A\n  text "b"\n',
+        f"l.l: of 2 texts 1 missing\n  A: {UNKNOWN}\n"
+        "  the scanner returns T_A for A: `tools/from_flex l.l GRAMMAR.y` reads names as Bison makes them\n",
+    ),
+    (
+        "a return give(A);\nb return give(B);\n",
+        "  no text lexeme A\n  no text lexeme B\n",
+        "l.l: of 2 texts 2 missing\n  A, B: no text is known of these tokens: no rule is understood to give them, or rules above "
+        "take their texts (`conform lexical` tells)\n"
+        "  `tools/from_flex l.l GRAMMAR.y` says which actions aren't understood, and what may stand in them\n",
+    ),
+]
 # Other commands on these files: a last line, and what is said of it.
 ENDINGS = [
     (
@@ -431,8 +458,18 @@ def good_runs(folder):
             yield fault or f"a good run of {words}: {told!r}"
     for words, wrote, ending in ENDINGS:
         fault, told = explained(folder, words, None, 0, wrote)
-        if fault or told != f"g.y: 2 rules left out for `error`; {ending}\n":
+        if fault or told.split("\n")[0] != f"g.y: 2 rules left out for `error`; {ending}":
             yield fault or f"a good run of {words}: {told!r}"
+
+
+def missing_texts(folder):
+    """Behind a good run stands how many texts are missing, and why."""
+    written(folder, "g.y", "%token A B\n%%\ns : A B | B ;\n")
+    for rules, wrote, wanted in MISSING:
+        written(folder, "l.l", f"%%\n{rules}")
+        fault, told = explained(folder, ["suite", "g.y", "l.l", "--criteria=rule", "--mutate=none"], None, 0, wrote)
+        if fault or told.partition("\n")[2] != wanted:
+            yield fault or f"{rules!r}: {told!r}, not {wanted!r}"
 
 
 def faults(folder):
@@ -476,7 +513,7 @@ def sentences(_):
 
 def main():
     failed = []
-    on_files = (plain_rows, not_plain_rows, calls, reports, places, lex_places, long_lines, others, good_runs, faults)
+    on_files = (plain_rows, not_plain_rows, calls, reports, places, lex_places, long_lines, others, good_runs, missing_texts, faults)
     for rows in (*on_files, sentences):
         with tempfile.TemporaryDirectory() as folder:
             os.chmod(written(folder, "program", MADE_UP), 0o755)

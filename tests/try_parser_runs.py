@@ -199,6 +199,15 @@ def readers(folder):
         yield f"a reader that stops: {found}"
 
 
+def missing(folder):
+    """Where no text holds a token, nothing can be said of the parser; tokens of which no text is known are told."""
+    text = re.sub(r'  text "x[^"]*"', "  no text lexeme 'x'", SECOND.replace("lexeme 'x' \"x\"", "lexeme 'x' none"))
+    found = call("try_parser", written(folder, "missing", text), "--", "/bin/false")
+    wanted = ["try_parser: no text holds a token", "try_parser: 'x': no text is known of this token"]
+    if found[0] != 2 or not all(map(str.startswith, found[2].splitlines(), wanted)) or "4 without a text" not in found[1]:
+        yield f"a suite without texts: {found}"
+
+
 def bad_calls(folder):
     path = written(folder, "first", FIRST)
     for words in BAD_CALLS:
@@ -207,4 +216,4 @@ def bad_calls(folder):
             yield f"try_parser {words}: {found}"
 
 
-end(alone, slow, interrupted, frames, starts, many, readers, bad_calls)
+end(alone, slow, interrupted, frames, starts, many, readers, missing, bad_calls)

@@ -129,7 +129,13 @@ BAD = {
 PREPROCESSOR = re.compile(rb"#[ \t]*(?:if|ifdef|ifndef|elif|else|endif|define|undef|include)\b")
 
 
+# A name for which configure puts text in.
+TEMPLATE = re.compile(rb"@[A-Za-z_][A-Za-z0-9_]*@")
+
+
 def no_token(text, at):
+    if TEMPLATE.match(text, at):
+        return Refusal(at, "configure puts text in here: take the file that it writes, or take this out")
     line = PREPROCESSOR.match(text, at)
     if line:
         word = line[0].decode()

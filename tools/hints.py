@@ -5,7 +5,7 @@ import re
 
 import lex_hints
 import plain
-from bison import PREPROCESSOR, WORDS
+from bison import PREPROCESSOR, TEMPLATE, WORDS
 from places import place
 
 CONVERT = "this is GNU Bison's, and tools/from_bison FILE > plain.y takes it out or says what to do"
@@ -93,6 +93,7 @@ BAD_ITEMS = (
     (rb"%", "a directive is % and a word, and %% parts declarations from rules"),
     (rb"[<>]", "a tag goes from < to > on one line and holds no other: tools/from_bison takes others out"),
     (rb"\}", "this closes a brace that was never opened"),
+    (TEMPLATE.pattern, "configure puts text in here: take the file that it writes, or take this out"),
     (rb"[@$]", "$ and @ stand in actions, which are in braces"),
     (rb"[*+?()]", "yacc has no repetitions and groups: write rules for them; for the byte itself write it in single quotes"),
     (rb"=", "a left side is followed by `:` alone"),

@@ -49,3 +49,19 @@ def hint(key, text, at):
         return trailing(text, at)
     read = text.decode("latin-1")
     return next((told for form, told in FORMS.get(key, ()) if re.compile(form).match(read, at)), None)
+
+
+# What a `return` gives, but for a byte and a number.
+RETURNED = re.compile(rb"\breturn\b[\s(]*([A-Za-z_](?:\w|\s*::\s*)*)")
+
+
+def of_missing(text, names):
+    """What may be done where texts are missing, by the names of the tokens of which none is known."""
+    if not names:
+        return "the joined lexemes scan to other tokens there: --separator= names other bytes between two"
+    given = [re.split(rb"\s*::\s*", found)[-1].decode() for found in RETURNED.findall(text)]
+    pairs = ((found, name) for name in names for found in given if found != name and found.endswith(name))
+    found, name = next(pairs, (None, None))
+    if found:
+        return f"the scanner returns {found} for {name}: `tools/from_flex FILE GRAMMAR.y` reads names as Bison makes them"
+    return "`tools/from_flex FILE GRAMMAR.y` says which actions aren't understood, and what may stand in them"

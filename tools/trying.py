@@ -16,7 +16,7 @@ import results
 from batch import NoAnswers, last_line
 from causes import Causes
 from options import BadCall
-from wording import cause_words
+from wording import cause_words, missing_words
 from workers import Run
 
 PASSED, FAILED, NOT_TRIED = 0, 1, 2
@@ -88,6 +88,9 @@ class Session:
         """The warning where texts were tried that have to be taken and such that have to be refused, and the parser did
         the same with all of them; or where it skipped all."""
         ran = [found for found in self.trials if found.outcome]
+        if self.without_text and not any(found.tokens for found in self.every):
+            yield "no text holds a token: the scanner isn't the grammar's, or its actions aren't understood"
+            return
         kinds = {found.outcome.kind for found in ran}
         if kinds != {"skipped"} and (len(kinds) != 1 or len({found.positive for found in ran}) != 2):
             return
@@ -136,8 +139,16 @@ class Session:
         write_lines(reports.tap_lines(self.trials) if self.asked.tap else self.lines())
         told = "matches no failed case any more"
         stale = (f"{self.asked.known}: line {line.number} {told}: {line.text}" for line in self.stale())
-        for warning in chain(self.warnings, stale):
+        for warning in chain(self.warnings, stale, self.told_missing()):
             warn(warning)
+
+    def told_missing(self):
+        """The tokens of which no text is known, where cases have none for that."""
+        lacking = {found.why for found in self.without_text}
+        names = [name for output in self.outputs for name, text in output.lexemes.items() if text is None]
+        missing = [name for name in dict.fromkeys(names) if f"lexeme {name}" in lacking]
+        if missing:
+            yield missing_words(missing)
 
     def write(self):
         """Writes the files that are asked for."""

@@ -64,3 +64,21 @@ def departure(cause):
 def cause_words(cause, rules):
     return f"{departure(cause)}: {place_words(rules, cause.words)}"
 
+
+
+MOST_NAMED = 6
+
+
+def names_words(names):
+    """Some names, the first of many."""
+    listed = ", ".join(names[:MOST_NAMED])
+    return f"{listed} and {len(names) - MOST_NAMED} more" if len(names) > MOST_NAMED else listed
+
+
+def missing_words(names):
+    """What is said of tokens of which no text is known."""
+    these, them, their = ("this token", "it", "its") if len(names) == 1 else ("these tokens", "them", "their")
+    return (
+        f"{names_words(names)}: no text is known of {these}: no rule is understood to give {them}, or rules above take "
+        f"{their} texts (`conform lexical` tells)"
+    )
