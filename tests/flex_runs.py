@@ -163,6 +163,9 @@ ACTIONS = [
     ("return x ? A : B;", "foreign"),
     ("return check(A);", "foreign"),
     ("return 'ab';", "foreign"),
+    ("return kind = A;", "foreign"),
+    ("return kind == A;", "foreign"),
+    ("{ return yylval.b += A; }", "foreign"),
 ]
 # A file with macros, what is written of its actions, and what is said; by C's preprocessor.
 MACROS = """%{
@@ -191,10 +194,14 @@ WITH_MACROS = [
     ("{ if (x) GIVE(A); GIVE(B); }", "/*@token not.a.token*/ { if (x) GIVE(A); GIVE(B); }", "kept, but in no text: a comment "
      "can say what its action gives, as /*@token B*/: "),
     ("GIVE", "GIVE", ""),
-    ("return BYTE;", "/*@token not.a.token*/ return BYTE;", "kept, but in no text: "),
+    ("return BYTE;", "return yytext[0];", ""),
     ("GIVE(BYTE);", "/*@token not.a.token*/ GIVE(BYTE);", "kept, but in no text: "),
     # Casts of a byte give way to blanks.
     ("{ return((int)yytext[0]); }", "{ return(     yytext[0]); }", ""),
+    ("{ return yylval.i = *yytext; }", "{ return yytext[0]         ; }", ""),
+    ("/* return */ return b = *yytext;", "/* return */ return yytext[0]  ;", ""),
+    ("return b /* it */ = *yytext;", "return b /* it */ = *yytext;", "kept, but in no text: "),
+    ("{ return yylval.i = '+'; }", "/*@token '+'*/ { return yylval.i = '+'; }", ""),
     ("return (int) (unsigned char) *yytext;", "return                       *yytext;", ""),
 ]
 # A grammar, a scanner's rules, what is written of these, and which tokens no rule gives.

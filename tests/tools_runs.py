@@ -248,6 +248,11 @@ MISSING = [
         "  the scanner returns T_A for A: `tools/from_flex l.l GRAMMAR.y` reads names as Bison makes them\n",
     ),
     (
+        "a return 'B';\n /* A: of its name: unknown; fill in: \"...\" return A; */\nb return B;\n[ ] ;\n",
+        '  no text lexeme A\n  text "b"\n',
+        f"l.l: of 2 texts 1 missing\n  A: {UNKNOWN}\n  a rule is to be filled in at line 3, column 2\n",
+    ),
+    (
         "a return give(A);\nb return give(B);\n",
         "  no text lexeme A\n  no text lexeme B\n",
         "l.l: of 2 texts 2 missing\n  A, B: no text is known of these tokens: no rule is understood to give them, or rules above "

@@ -3,7 +3,7 @@
 import re
 from typing import NamedTuple
 
-from flex_macros import without_text
+from flex_macros import NO_CODE, without_text
 from plain import ITEM
 
 # A word of these makes an action foreign wherever it stands in it.
@@ -23,6 +23,7 @@ OWN_BYTE = re.compile(rb"yytext\s*\[\s*0\s*\]|\*\s*yytext")
 # Types of which a cast changes no token, and casts to them; one to a type of one byte changes no literal.
 TYPES = rb"(?:const|unsigned|signed|int|short|long|char|enum|(?:\w+::)*(?:yytokentype|token_type|token_kind_type|yytoken_kind_t))\b"
 CAST = re.compile(rb"\(\s*(?:" + TYPES + rb"\s*)+\)\s*(?=[\w('*:])|static_cast\s*<\s*(?:" + TYPES + rb"\s*)+>\s*(?=\()")
+ASSIGNMENT = re.compile(rb"(?<![=!<>+*/%&|^-])=(?!=)")
 # A name of C++'s, and Bison's own function that makes a token; without `::` it may be any function.
 QUALIFIED = re.compile(rb"(?:::\s*)?((?:[A-Za-z_]\w*\s*::\s*)*)([A-Za-z_]\w*)")
 MADE = re.compile(rb"(?:::\s*)?(?:[A-Za-z_]\w*\s*::\s*)+make_([A-Za-z_]\w*)\s*\(")
@@ -94,15 +95,29 @@ def inner(value):
     return value[commas[-1] + 1 :].strip() if commas else value
 
 
-def token_of(value, prefix):
-    """What is given where this value is returned. Names of tokens begin with the prefix in C, and not in the grammar."""
+def assigned(value):
+    """What is assigned where the value is an assignment; itself where it is none."""
+    places = [at for at, _, depth in depths(value) if depth == 0 and ASSIGNMENT.match(value, at)]
+    return value[places[-1] + 1 :].strip() if places else value
+
+
+def simplest(value):
+    """What a value comes to behind casts and assignments, and whether one of them may keep no more than a byte of it."""
     is_narrow = False
     while True:
-        cast = CAST.match(value)
+        cast, before = CAST.match(value), value
+        value = value[cast.end() :] if cast else inner(value)
         is_narrow |= cast is not None and b"char" in cast[0]
-        before, value = value, value[cast.end() :] if cast else inner(value)
         if before == value:
-            break
+            value = assigned(value)
+            is_narrow |= before != value
+        if before == value:
+            return value, is_narrow
+
+
+def token_of(value, prefix):
+    """What is given where this value is returned. Names of tokens begin with the prefix in C, and not in the grammar."""
+    value, is_narrow = simplest(value)
     if OWN_BYTE.fullmatch(value):
         return BYTE
     if LITERAL.fullmatch(value):
@@ -135,6 +150,16 @@ def without_casts(action):
     return CAST.sub(lambda found: b" " * len(found[0]), action)
 
 
+def with_byte(action):
+    """The action with `yytext[0]` in place of what its one `return` returns."""
+    code = NO_CODE.sub(lambda found: b" " * len(found[0]), action)
+    found = re.search(rb"\breturn\b", code)
+    value = operand(code, found.end()) if found else None
+    if value is None or value != action[found.end() :][: len(value)] or b"\n" in value:
+        return action
+    return action[: found.end()] + b" yytext[0]".ljust(len(value)) + action[found.end() + len(value) :]
+
+
 def written_plainly(action, given):
     """An action of which the profile reads that it gives this; None where that isn't known or can't be written."""
     if given.kind == "unknown":
@@ -142,5 +167,5 @@ def written_plainly(action, given):
     if MARK.search(action) or plainly(action) == given:
         return action
     if given.kind == "byte":
-        return without_casts(action) if plainly(without_casts(action)) == BYTE else None
+        return next((plain for plain in (without_casts(action), with_byte(action)) if plainly(plain) == BYTE), None)
     return b"/*@skip*/ " + action if given == SKIP else b"/*@token %s*/ %s" % (given.names[0], action)

@@ -3,6 +3,8 @@
 import re
 
 from flex import NAME
+from flex_macros import WORD
+from places import place
 
 WRITTEN_OUT = "tools/from_flex FILE > plain.l writes it out"
 LEFT_OUT = "tools/from_flex FILE > plain.l leaves such rules out, and says which"
@@ -55,12 +57,19 @@ def hint(key, text, at):
 RETURNED = re.compile(rb"\breturn\b[\s(]*([A-Za-z_](?:\w|\s*::\s*)*)")
 
 
-def of_missing(text, names):
+# The comment of tools/start_lex in place of a rule.
+TO_FILL_IN = r"/\* %s: .*; fill in: "
+
+
+def of_missing(text, grammar, names):
     """What may be done where texts are missing, by the names of the tokens of which none is known."""
     if not names:
         return "the joined lexemes scan to other tokens there: --separator= names other bytes between two"
-    given = [re.split(rb"\s*::\s*", found)[-1].decode() for found in RETURNED.findall(text)]
-    pairs = ((found, name) for name in names for found in given if found != name and found.endswith(name))
+    to_fill_in = next(filter(None, (re.search((TO_FILL_IN % re.escape(name)).encode(), text) for name in names)), None)
+    if to_fill_in:
+        return f"a rule is to be filled in at {'line %d, column %d' % place(text, to_fill_in.start())}"
+    given = {re.split(rb"\s*::\s*", found)[-1] for found in RETURNED.findall(text)} - {*WORD.findall(grammar)}
+    pairs = ((found.decode(), name) for name in names for found in sorted(given) if found.endswith(name.encode()))
     found, name = next(pairs, (None, None))
     if found:
         return f"the scanner returns {found} for {name}: `tools/from_flex FILE GRAMMAR.y` reads names as Bison makes them"
