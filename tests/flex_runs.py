@@ -163,6 +163,7 @@ ACTIONS = [
     ("return x ? A : B;", "foreign"),
     ("return check(A);", "foreign"),
     ("return 'ab';", "foreign"),
+    ("{ c = '\"'; return A; d = '\"'; }", "token"),
     ("return kind = A;", "foreign"),
     ("return kind == A;", "foreign"),
     ("{ return yylval.b += A; }", "foreign"),
@@ -181,7 +182,12 @@ MACROS = """%{
 #define MAYBE(x)
 #endif
 #define BYTE yytext[0]
+/*
+#define NOTE return A
+*/
 %}
+  #define INDENTED(x) return x
+SLASHES [/*]
 %%
 """
 WITH_MACROS = [
@@ -194,6 +200,8 @@ WITH_MACROS = [
     ("{ if (x) GIVE(A); GIVE(B); }", "/*@token not.a.token*/ { if (x) GIVE(A); GIVE(B); }", "kept, but in no text: a comment "
      "can say what its action gives, as /*@token B*/: "),
     ("GIVE", "GIVE", ""),
+    ("NOTE;", "NOTE;", ""),
+    ("INDENTED(A);", "/*@token A*/ INDENTED(A);", ""),
     ("return BYTE;", "return yytext[0];", ""),
     ("GIVE(BYTE);", "/*@token not.a.token*/ GIVE(BYTE);", "kept, but in no text: "),
     # Casts of a byte give way to blanks.

@@ -3,7 +3,7 @@
 import re
 from typing import NamedTuple
 
-from flex_macros import NO_CODE, without_text
+from flex_macros import blanked, without_text
 from plain import ITEM
 
 # A word of these makes an action foreign wherever it stands in it.
@@ -152,7 +152,7 @@ def without_casts(action):
 
 def with_byte(action):
     """The action with `yytext[0]` in place of what its one `return` returns."""
-    code = NO_CODE.sub(lambda found: b" " * len(found[0]), action)
+    code = blanked(action)
     found = re.search(rb"\breturn\b", code)
     value = operand(code, found.end()) if found else None
     if value is None or value != action[found.end() :][: len(value)] or b"\n" in value:

@@ -3,9 +3,10 @@
 import re
 
 DEFINE = re.compile(
-    rb"^[ \t]*#[ \t]*define[ \t]+(?P<name>[A-Za-z_]\w*)(?:\((?P<parameters>[^)\n]*)\))?(?P<body>(?:\\\r?\n|[^\n])*)", re.M
+    rb"^[ \t]*#[ \t]*define[ \t]+(?P<name>[A-Za-z_]\w*)(?:\((?P<parameters>[^)\n]*)\))?(?P<body>[^\n]*)", re.M
 )
-NO_CODE = re.compile(rb"/\*.*?\*/|//[^\n]*|\"(?:\\.|[^\"\\\n])*\"", re.S)
+# Comments and strings; a literal is matched as well, so that a quote in it begins no string.
+NO_CODE = re.compile(rb"/\*.*?\*/|//[^\n]*|\"(?:\\.|[^\"\\\n])*\"|'(?:\\.|[^'\\\n])*'", re.S)
 PIECE = re.compile(rb"'(?:\\.|[^'\\\n])*'|[A-Za-z0-9_]+|\s+|.", re.S)
 PASTE, TEXT_OF = re.compile(rb"\s*##\s*"), re.compile(rb"#\s*[A-Za-z_]\w*")
 WORD = re.compile(rb"[A-Za-z0-9_]+")
@@ -15,7 +16,12 @@ MOST_DEEP, MOST_WRITTEN = 20, 1 << 16
 
 def without_text(code):
     """Code with a blank for each comment and string."""
-    return NO_CODE.sub(b" ", code)
+    return NO_CODE.sub(lambda found: found[0] if found[0].startswith(b"'") else b" ", code)
+
+
+def blanked(code):
+    """The same with as many blanks as there were bytes."""
+    return NO_CODE.sub(lambda found: found[0] if found[0].startswith(b"'") else b" " * len(found[0]), code)
 
 
 def one_of(bodies, names):
@@ -47,8 +53,8 @@ class Macros:
 
     def __init__(self, text):
         definitions = {}
-        for define in DEFINE.finditer(text):
-            body = without_text(re.sub(rb"\\\r?\n", b" ", define["body"])).strip()
+        for define in DEFINE.finditer(without_text(re.sub(rb"\\\r?\n", b" ", text))):
+            body = define["body"].strip()
             listed = None if define["parameters"] is None else [name.strip() for name in define["parameters"].split(b",")]
             definitions.setdefault(define["name"], {})[body] = listed
         self.found = {name: one_of(bodies, definitions) for name, bodies in definitions.items()}
