@@ -7,6 +7,7 @@ use Rattle.cs_grammar.specs.declared.symbol.Mark.TheVariants.{Begin, Token, End}
 use Rattle.cs_grammar.specs.Grammar.{Production, PlainGrammar, IsRule, IsNumberOf}
 use Rattle.cs_goals.specs.declared.goal.Goal.{Goal}
 use Rattle.cs_goals.specs.declared.goal.Goal.TheVariants.{Rule, Context, Pair}
+use Rattle.cs_goals.specs.declared.goal.Occurrence.{Occurrence}
 use Rattle.cs_choices.specs.declared.criteria.Criteria.{Criteria}
 
 -- place i of rule p, counted from 1, is a nonterminal that rule q has on its left side
@@ -17,6 +18,14 @@ pub record IsOccurrence (g : PlainGrammar) (p i q : ℕ) : Type 0 where
   pub is_inner : IsRule g q inner
   pub above_zero : 0 < i
   pub at : slice_get outer.right (i - 1) ≡ Some (Nonterminal inner.left)
+
+-- the same of its three numbers as one value
+abbrev pub HasOccurrence : PlainGrammar → Occurrence → Type 0
+HasOccurrence g o = IsOccurrence g o.outer o.place o.inner
+
+-- the goal of an occurrence
+abbrev pub context_goal : Occurrence → Goal
+context_goal o = Context o.outer o.place o.inner
 
 -- what may stand on the left of a pair, with a token of so many
 abbrev pub IsLeft : ℕ → Mark → Type 0

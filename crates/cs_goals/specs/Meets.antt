@@ -42,7 +42,3 @@ pub record IsMeeting (g : PlainGrammar) (goal : Goal) (rules : List ℕ) : Type 
   pub is_tree : IsTree g (Nonterminal g.start) tree
   pub code : rules ≡ code tree
   pub meets : Meets goal tree
-
--- the tree of this code meets the context goal
-abbrev pub HasChild : PlainGrammar → List ℕ → ℕ → ℕ → ℕ → Type 0
-HasChild g rules p i q = IsMeeting g (Context p i q) rules

@@ -8,7 +8,7 @@ use Rattle.cs_grammar.specs.declared.symbol.Mark.TheVariants.{Begin, Token as To
 use Rattle.cs_grammar.specs.Grammar.{Production, PlainGrammar}
 use Rattle.cs_goals.specs.declared.goal.Goal.{Goal}
 use Rattle.cs_goals.specs.declared.goals.GivenPairs.{GivenPairs}
-use Rattle.cs_goals.specs.declared.occurrence.Occurrence.{Occurrence}
+use Rattle.cs_goals.specs.declared.occurrence.ContextIndex.{ContextIndex}
 use Rattle.cs_goals.specs.declared.goal.Goal.TheVariants.{Rule, Context, Pair}
 use Rattle.cs_goals.specs.Goals.{numbered_rules, rules_of, goals_at, goals_in, left_marks, right_marks, goals_after}
 
@@ -47,7 +47,7 @@ abbrev pub pairs_left : ℕ → ℕ → ℕ → List Goal
 pairs_left tokens a b = lefts_left tokens (drop a (left_marks tokens)) b
 
 -- what is left where a context goal's place in the list was reached, or so many marks were given
-abbrev pub contexts_at : PlainGrammar → Occurrence → List Goal
+abbrev pub contexts_at : PlainGrammar → ContextIndex → List Goal
 contexts_at g given = contexts_left g given.outer given.place given.inner
 
 abbrev pub pairs_at : PlainGrammar → GivenPairs → List Goal
@@ -74,7 +74,7 @@ IsNextPlace g p rule place inner found =
     ≡ Context p (at.0 + 1) (at.1 + 1) ∷ places_left g p (drop at.0 (enumerate_from 1 rule.right)) (at.1 + 1)))
 
 -- the first context goal from a place in the list of them on
-abbrev pub IsNextContext : PlainGrammar → Occurrence → Option Occurrence → Type 0
+abbrev pub IsNextContext : PlainGrammar → ContextIndex → Option ContextIndex → Type 0
 IsNextContext g from found =
     MatchOption found
     (contexts_at g from ≡ [])

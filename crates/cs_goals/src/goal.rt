@@ -1,7 +1,7 @@
 // Goals of coverage, and which of them a grammar has.
 
 ghost use Rattle.std.specs.Prelude.{◌↔◌, IsTrue};
-ghost use Rattle.cs_goals.specs.Goal.{IsGoal, IsOccurrence, IsLeft, IsRight};
+ghost use Rattle.cs_goals.specs.Goal.{HasOccurrence, IsGoal, IsLeft, IsRight};
 
 use cs_grammar::{Grammar, Mark, Symbol, place_of};
 
@@ -16,6 +16,15 @@ pub enum Goal {
     Pair { left: Mark, right: Mark },
 }
 
+/// A use of a rule: a node with the rule `outer` has a node with the rule `inner` as its child at `place`. Rules and places
+/// are counted from 1.
+#[derive(Clone, Copy, Debug, PartialEq, Eq)]
+pub struct Occurrence {
+    pub outer: u16,
+    pub place: u16,
+    pub inner: u16,
+}
+
 /// Whether the goal is one of the grammar's: a rule goal of one of its rules, a context goal of a nonterminal at a place
 /// of one of its rules and a rule of that nonterminal, a pair goal of the begin mark or a token, and a token or the end
 /// mark.
@@ -28,26 +37,33 @@ pub fn fits_goal(grammar: &Grammar, goal: &Goal) -> bool
             outer,
             place,
             inner,
-        } => fits_context(grammar, outer, place, inner),
+        } => fits_occurrence(
+            grammar,
+            Occurrence {
+                outer,
+                place,
+                inner,
+            },
+        ),
         Goal::Pair { left, right } => {
             fits_left(grammar.tokens(), left) && fits_right(grammar.tokens(), right)
         }
     }
 }
 
-fn fits_context(grammar: &Grammar, outer: u16, place: u16, inner: u16) -> bool
-    ensures { IsTrue result ↔ IsOccurrence grammar.now outer place inner }
+fn fits_occurrence(grammar: &Grammar, occurrence: Occurrence) -> bool
+    ensures { IsTrue result ↔ HasOccurrence grammar.now occurrence }
 {
-    let Some(outer) = grammar.get_rule(outer) else {
+    let Some(outer) = grammar.get_rule(occurrence.outer) else {
         return false;
     };
-    let Some(inner) = grammar.get_rule(inner) else {
+    let Some(inner) = grammar.get_rule(occurrence.inner) else {
         return false;
     };
-    if place == 0 {
+    if occurrence.place == 0 {
         return false;
     }
-    match outer.right().get(place_of(place)) {
+    match outer.right().get(place_of(occurrence.place)) {
         Some(Symbol::Nonterminal(nonterminal)) => *nonterminal == inner.left(),
         _ => false,
     }

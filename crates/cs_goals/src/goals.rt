@@ -5,7 +5,7 @@ ghost use Rattle.cs_goals.specs.Goals.{goals};
 ghost use Rattle.cs_goals.specs.Rest.{left_mark, rules_left, contexts_at, pairs_at, Gives};
 
 use crate::goal::Goal;
-use crate::occurrence::{Occurrence, next_occurrence};
+use crate::occurrence::{ContextIndex, next_occurrence};
 use cs_choices::Criteria;
 use cs_grammar::{Grammar, Mark, number_of};
 use std::marker::Model;
@@ -16,7 +16,7 @@ use std::marker::Model;
 pub struct Goals<'g> {
     grammar: &'g Grammar,
     rules: usize,
-    contexts: Occurrence,
+    contexts: ContextIndex,
     pairs: GivenPairs,
 }
 
@@ -51,7 +51,7 @@ impl<'g> Goals<'g> {
         Goals {
             grammar,
             rules: if criteria.rule { 0 } else { last },
-            contexts: Occurrence {
+            contexts: ContextIndex {
                 outer: if criteria.cdrc { 0 } else { last },
                 place: 0,
                 inner: 0,
@@ -105,7 +105,7 @@ fn next_rule(grammar: &Grammar, given: &mut usize) -> Option<Goal>
     }
 }
 
-fn next_context(grammar: &Grammar, given: &mut Occurrence) -> Option<Goal>
+fn next_context(grammar: &Grammar, given: &mut ContextIndex) -> Option<Goal>
     ensures { Gives (contexts_at grammar.now given.old) (contexts_at grammar.now given.new) result }
 {
     match next_occurrence(grammar, *given) {

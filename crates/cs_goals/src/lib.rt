@@ -28,7 +28,7 @@ mod meeting;
 mod neighbours;
 mod occurrence;
 
-pub use goal::{Goal, fits_goal};
+pub use goal::{Goal, Occurrence, fits_goal};
 pub use goals::Goals;
 pub use laws::each_goal_once;
 pub use meeting::meets;

@@ -3,10 +3,11 @@
 ghost use Rattle.std.specs.Prelude.{◌↔◌, IsTrue, IfOk, OnOk};
 ghost use Rattle.cs_grammar.specs.Stack.{AreOnTop};
 ghost use Rattle.cs_grammar.specs.Tree.{IsDerivationOf};
-ghost use Rattle.cs_goals.specs.Meets.{IsMeeting, HasChild};
+ghost use Rattle.cs_goals.specs.Goal.{context_goal};
+ghost use Rattle.cs_goals.specs.Meets.{IsMeeting};
 ghost use Rattle.cs_goals.specs.Awaits.{awaits};
 
-use crate::goal::Goal;
+use crate::goal::{Goal, Occurrence};
 use crate::neighbours::has_pair;
 use cs_grammar::{Derivation, Grammar, Symbol, yield_of};
 use std::alloc::{AllocError, Global};
@@ -28,7 +29,16 @@ pub fn meets(
             outer,
             place,
             inner,
-        } => meets_context(alloc, grammar, derivation, outer, place, inner),
+        } => has_occurrence(
+            alloc,
+            grammar,
+            derivation,
+            Occurrence {
+                outer,
+                place,
+                inner,
+            },
+        ),
         Goal::Pair { left, right } => {
             let tokens = yield_of(alloc, grammar, derivation)?;
             Ok(has_pair(&tokens, left, right))
@@ -36,31 +46,33 @@ pub fn meets(
     }
 }
 
-// Whether some node with the rule `outer` has a node with the rule `inner` as its child at the place. The stack says of
+// Whether some node with the outer rule has a node with the inner one as its child at the place. The stack says of
 // each open nonterminal whether it is such a child.
-fn meets_context(
+fn has_occurrence(
     alloc: Global,
     grammar: &Grammar,
     derivation: &Derivation,
-    outer: u16,
-    place: u16,
-    inner: u16,
+    occurrence: Occurrence,
 ) -> Result<bool, AllocError>
     requires { IsDerivationOf grammar.now derivation.now }
     ensures { IfOk result
-        (λ met. IsTrue met ↔ HasChild grammar.now derivation.now outer place inner) }
+        (λ met. IsTrue met ↔ IsMeeting grammar.now (context_goal occurrence) derivation.now) }
 {
     let mut pending = vec![in alloc; false]?;
     for number in derivation.rules() {
         let is_awaited = pending.pop().unwrap_or(false);
-        if is_awaited && *number == inner {
+        if is_awaited && *number == occurrence.inner {
             return Ok(true);
         }
         let rule = grammar.rule(*number);
         await_child(
             &mut pending,
             rule.right(),
-            if *number == outer { place } else { 0 },
+            if *number == occurrence.outer {
+                occurrence.place
+            } else {
+                0
+            },
         )?;
     }
     Ok(false)

@@ -7,7 +7,7 @@ use cs_grammar::{Grammar, Rule, Symbol};
 
 // A context goal's place in the list of them, each number counted from 0.
 #[derive(Clone, Copy, Debug)]
-pub(crate) struct Occurrence {
+pub(crate) struct ContextIndex {
     pub(crate) outer: usize,
     pub(crate) place: usize,
     pub(crate) inner: usize,
@@ -43,7 +43,7 @@ pub fn next_in(grammar: &Grammar, rule: &Rule, place: usize, inner: usize) -> Op
 }
 
 // The first context goal from a place in the list of them on.
-pub(crate) fn next_occurrence(grammar: &Grammar, from: Occurrence) -> Option<Occurrence>
+pub(crate) fn next_occurrence(grammar: &Grammar, from: ContextIndex) -> Option<ContextIndex>
     ensures { IsNextContext grammar.now from result }
 {
     let mut start = from;
@@ -54,7 +54,7 @@ pub(crate) fn next_occurrence(grammar: &Grammar, from: Occurrence) -> Option<Occ
             start.place,
             start.inner,
         ) {
-            return Some(Occurrence {
+            return Some(ContextIndex {
                 outer,
                 place,
                 inner,

@@ -29,7 +29,8 @@ pub use error::LayoutError;
 pub use laws::{
     limits, named_parts, new_names, one_end, one_layout, one_stop, stopped_has_no_layout,
 };
-pub use layout::{Layout, RulesLine, read_layout, rules_line};
+pub(crate) use layout::{RulesLine, rules_line};
+pub use layout::{Layout, read_layout};
 pub use parts::{Definition, Part, Rule};
 pub use settled::{definitions_end, layout_or_stop};
 

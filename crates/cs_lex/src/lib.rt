@@ -32,7 +32,7 @@ mod reading;
 
 pub use actions::{ActionKind, action_kind, one_kind};
 pub use layout::{
-    Definition, LayoutError, MOST_BYTES, Part, Rule, definitions_end, layout_or_stop,
+    Definition, Layout, LayoutError, MOST_BYTES, Part, Rule, definitions_end, layout_or_stop,
     limits as layout_limits, named_parts, new_names, one_end, one_layout, one_stop, read_layout,
     stopped_has_no_layout,
 };

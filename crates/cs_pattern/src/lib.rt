@@ -32,7 +32,6 @@
 mod operations;
 mod text;
 
-pub use operations::{build, measure_of, postfix};
 pub use text::{
     ByteSet, CheckError, Checked, DefinitionError, Definitions, Kind, MOST_BYTES, MOST_DEPTH,
     MOST_LEAVES, Pattern, PatternError, PatternFault, byte_limit, definitions_accepted_or_refused,

@@ -14,7 +14,7 @@ mod measure;
 mod names;
 mod operations;
 
-pub use building::{Known, build};
-pub use measure::{Measure, leaf, measure_of};
-pub use names::{Texts, index_of};
-pub use operations::{Op, postfix};
+pub(crate) use building::{Known, build};
+pub(crate) use measure::{Measure, leaf, measure_of};
+pub(crate) use names::{Texts, index_of};
+pub(crate) use operations::{Op, postfix};

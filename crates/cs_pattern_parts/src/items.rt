@@ -24,4 +24,4 @@ pub use item::{Item, Placed, Repetition};
 pub use laws::{has_is_contains, one_item, one_set, one_stop, stopped_spells_nothing};
 
 /// The greatest number in an interval.
-pub const MOST_REPEATS: u32 = 1000;
+pub(crate) const MOST_REPEATS: u32 = 1000;

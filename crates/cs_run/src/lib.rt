@@ -37,5 +37,5 @@ mod writer;
 
 pub use command::{one_asked_text, run};
 pub use ending::{Ending, finish};
-pub use input::{Pair, Refusal, Stop, judge_pair, line, read_files};
+pub use input::{Meant, Pair, PairAndText, Refusal, Stop, TextBytes, judge_pair, line, read_files};
 pub use writer::{write_rules, write_suite, write_summary};

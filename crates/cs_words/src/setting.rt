@@ -32,7 +32,7 @@ pub(crate) enum Setting {
 
 /// What an option is about.
 #[derive(Clone, Copy, Debug, PartialEq, Eq)]
-pub enum Kind {
+pub(crate) enum Kind {
     Criteria,
     Mutate,
     Bases,

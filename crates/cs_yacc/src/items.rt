@@ -19,7 +19,8 @@ mod table;
 pub use directive::Directive;
 pub use error::ItemsError;
 pub use item::{Item, Placed};
-pub use items::{read_items, read_or_stopped};
+pub use items::read_items;
+pub(crate) use items::read_or_stopped;
 pub use laws::{
     byte_limit, one_reading, one_stop, one_stuck, stopped_is_not_read, stuck_is_not_taken,
 };

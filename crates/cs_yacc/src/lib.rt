@@ -31,8 +31,8 @@ mod items;
 mod reading;
 
 pub use items::{
-    Item, ItemsError, MOST_BYTES, Placed, byte_limit, one_reading, one_stop, one_stuck, read_items,
-    stopped_is_not_read, stuck_is_not_taken, syntax_fault,
+    Directive, Item, ItemsError, MOST_BYTES, Placed, byte_limit, one_reading, one_stop, one_stuck,
+    read_items, stopped_is_not_read, stuck_is_not_taken, syntax_fault,
 };
 pub use reading::{
     Name, TokenName, YaccError, YaccFile, YaccLimit, accepted_or_refused, one_file, one_refusal,

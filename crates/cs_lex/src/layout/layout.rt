@@ -45,7 +45,7 @@ pub(crate) enum DefinitionsLine {
 }
 
 /// What a line of the rules section is, and the offset behind it.
-pub enum RulesLine {
+pub(crate) enum RulesLine {
     End,
     Passed(usize),
     Rule(Rule, usize),
@@ -206,7 +206,7 @@ fn rule_at(bytes: &[u8], at: usize) -> Result<RulesLine, LayoutError>
 
 /// The line of the rules section at the offset. The error is `Unended`, where the line's block, a comment or its action's brace
 /// isn't closed; any other line is answered.
-pub fn rules_line(bytes: &[u8], at: usize) -> Result<RulesLine, LayoutError>
+pub(crate) fn rules_line(bytes: &[u8], at: usize) -> Result<RulesLine, LayoutError>
     requires within { at < length bytes.now }
     requires short { length bytes.now ≤ most_bytes }
     ensures { FindsRulesLine bytes.now at result }

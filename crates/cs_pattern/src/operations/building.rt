@@ -14,7 +14,7 @@ use indexmap::IndexMap;
 use std::alloc::{AllocError, Global};
 
 /// The patterns of definitions, by their indexes.
-pub type Known = IndexMap<usize, Pattern>;
+pub(crate) type Known = IndexMap<usize, Pattern>;
 
 /// The class of one byte.
 fn one_byte(byte: u8) -> Pattern
@@ -207,7 +207,7 @@ fn apply(alloc: Global, stack: &mut Vec<Pattern>, op: &Op, known: &Known) -> Res
 
 /// The pattern of a tree's operations, where the definitions have the known ones; an index that has none stands for the empty
 /// text. No pattern that it makes on the way is nested deeper than 1,000.
-pub fn build(alloc: Global, ops: &[Op], known: &Known) -> Result<Pattern, AllocError>
+pub(crate) fn build(alloc: Global, ops: &[Op], known: &Known) -> Result<Pattern, AllocError>
     requires { GiveShallow known.now.entries (ops_of ops.now) }
     ensures { IfOk result (λ p. IsPatternOf known.now.entries (ops_of ops.now) (regex p)) }
 {

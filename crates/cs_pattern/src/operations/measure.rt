@@ -13,13 +13,13 @@ use std::alloc::{AllocError, Global};
 
 /// The depth and the number of leaves of a pattern; a number that is too large for the type stands at its end.
 #[derive(Clone, Copy, Debug, PartialEq, Eq)]
-pub struct Measure {
-    pub depth: u32,
-    pub leaves: u32,
+pub(crate) struct Measure {
+    pub(crate) depth: u32,
+    pub(crate) leaves: u32,
 }
 
 /// One leaf.
-pub fn leaf() -> Measure
+pub(crate) fn leaf() -> Measure
     ensures { result ≡ spec.leaf }
 {
     Measure {
@@ -148,7 +148,11 @@ fn apply(stack: &mut Vec<Measure>, op: &Op, known: &[Measure]) -> Result<(), All
 }
 
 /// The measure of a pattern, where the definitions have the known ones; an index that has none counts as one leaf.
-pub fn measure_of(alloc: Global, ops: &[Op], known: &[Measure]) -> Result<Measure, AllocError>
+pub(crate) fn measure_of(
+    alloc: Global,
+    ops: &[Op],
+    known: &[Measure],
+) -> Result<Measure, AllocError>
     ensures { IfOk result (IsMeasureOf known.now (ops_of ops.now)) }
 {
     let mut stack = Vec::new(alloc);

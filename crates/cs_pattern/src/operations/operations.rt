@@ -14,7 +14,7 @@ use std::alloc::{AllocError, Global};
 
 /// An operation on a stack of patterns: the first three put one on it, the others replace what is on top.
 #[derive(Debug, Drop)]
-pub enum Op {
+pub(crate) enum Op {
     Class(ByteSet),
     Quoted(Vec<u8>),
     /// The pattern of a definition, by its index.
@@ -158,7 +158,7 @@ fn push_end(ops: &mut Vec<Op>, level: Level) -> Result<(), AllocError>
 
 /// The operations of the items of a pattern, each name by the index of its definition; one that has none by the number of
 /// definitions.
-pub fn postfix(alloc: Global, items: &[Placed], names: &Texts) -> Result<Vec<Op>, AllocError>
+pub(crate) fn postfix(alloc: Global, items: &[Placed], names: &Texts) -> Result<Vec<Op>, AllocError>
     ensures { IfOk result (λ v. AreOperationsOf names.now.entries items.now v.items) }
 {
     let mut reader = Reader {

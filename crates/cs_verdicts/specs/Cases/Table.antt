@@ -3,6 +3,8 @@ use Rattle.std.specs.Prelude.{◌≡◌, ℕ, ◌⊎◌, ◌↔◌, Bool, List, 
 use Rattle.cs_grammar.specs.Grammar.{PlainGrammar}
 use Rattle.cs_goals.specs.declared.goal.Goal.{Goal}
 use Rattle.cs_goals.specs.declared.goal.Goal.TheVariants.{Rule, Context, Pair}
+use Rattle.cs_goals.specs.declared.goal.Occurrence.{Occurrence}
+use Rattle.cs_goals.specs.Goal.{context_goal}
 use Rattle.cs_goals.specs.Meets.{IsMeeting}
 use Rattle.cs_verdicts.specs.declared.cases.code.Code.{Code}
 use Rattle.cs_verdicts.specs.Cases.Cases.{PlainCases, IsLowest, IsNew, IsCaseOf, with_case}
@@ -16,6 +18,10 @@ HasNumber firsts goal = (n : ℕ) × Contains firsts (goal, n)
 
 abbrev pub HasNone : List (Goal × ℕ) → Goal → Type 0
 HasNone firsts goal = (n : ℕ) → Contains firsts (goal, n) → ⊥
+
+-- what a use of a rule meets: the rule, and the use itself
+abbrev pub goals_of : Occurrence → List Goal
+goals_of o = Rule o.inner ∷ context_goal o ∷ []
 
 -- where the goal is a context, the rule that it shows has a number
 abbrev pub IsRuled : List (Goal × ℕ) → Goal → Type 0

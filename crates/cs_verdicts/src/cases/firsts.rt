@@ -2,12 +2,12 @@
 
 ghost use Rattle.std.specs.Prelude.{◌≡◌, ◌+◌, ◌*◌, ◌<◌, [], ◌∷◌, OnOk, OnErr, length, take};
 ghost use Rattle.std.specs.Bool.{OnTrue};
-ghost use Rattle.cs_goals.specs.declared.goal.Goal.TheVariants.{Context, Pair, Rule};
-ghost use Rattle.cs_verdicts.specs.Cases.Table.{AreAllAdded, AreRuled, IsAdded, IsFound, IsGrown, IsRuled};
+ghost use Rattle.cs_goals.specs.declared.goal.Goal.TheVariants.{Pair, Rule};
+ghost use Rattle.cs_verdicts.specs.Cases.Table.{AreAllAdded, AreRuled, IsAdded, IsFound, IsGrown, IsRuled, goals_of};
 ghost use Rattle.cs_verdicts.specs.Cases.Firsts.{IsRecent, IsSmall, key_of, mark_key};
 ghost use Rattle.cs_verdicts.specs.Cases.KeyHash.{hash_number, mark_number};
 
-use cs_goals::Goal;
+use cs_goals::{Goal, Occurrence};
 use cs_grammar::Mark;
 use indexmap::IndexMap;
 use std::alloc::{AllocError, Global};
@@ -200,29 +200,23 @@ impl Firsts {
     // Adds a context and the rule that it shows, where they have no number.
     pub(crate) fn add_context(
         &mut self,
-        outer: u16,
-        place: u16,
-        inner: u16,
+        occurrence: Occurrence,
         case: u64,
     ) -> Result<(), AllocError>
         ensures added { OnOk result
-            (AreAllAdded self.old (Rule inner ∷ Context outer place inner ∷ []) case self.new) }
+            (AreAllAdded self.old (goals_of occurrence) case self.new) }
         ensures grown { IsGrown self.old self.new }
     {
-        let number = goal_number(Goal::Context {
-            outer,
-            place,
-            inner,
-        });
+        let goal = Goal::Context {
+            outer: occurrence.outer,
+            place: occurrence.place,
+            inner: occurrence.inner,
+        };
+        let number = goal_number(goal);
         if self.is_recent(number) {
             return Ok(());
         }
-        self.add(Goal::Rule(inner), case)?;
-        let goal = Goal::Context {
-            outer,
-            place,
-            inner,
-        };
+        self.add(Goal::Rule(occurrence.inner), case)?;
         self.put(goal, case)?;
         self.keep_recent(number);
         Ok(())

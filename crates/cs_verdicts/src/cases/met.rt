@@ -9,6 +9,7 @@ ghost use Rattle.cs_verdicts.specs.Cases.Met.{AreMetAdded, AreInsideAdded, below
 ghost use Rattle.cs_verdicts.specs.Cases.Table.{AreAllAdded, IsGrown};
 
 use crate::cases::firsts::Firsts;
+use cs_goals::Occurrence;
 use cs_grammar::{Derivation, Grammar, Mark, Symbol, number_of};
 use std::alloc::AllocError;
 
@@ -107,7 +108,14 @@ fn add_node(
     ensures grown { IsGrown firsts.old firsts.new }
 {
     match spots.pop() {
-        Some(Spot { outer, place }) => firsts.add_context(outer, place, rule, case),
+        Some(Spot { outer, place }) => {
+            let occurrence = Occurrence {
+                outer,
+                place,
+                inner: rule,
+            };
+            firsts.add_context(occurrence, case)
+        }
         None => firsts.add_rule(rule, case),
     }
 }

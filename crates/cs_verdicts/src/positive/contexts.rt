@@ -2,51 +2,51 @@
 
 ghost use Rattle.std.specs.Prelude.{◌≡◌, IfOk, All};
 ghost use Rattle.cs_grammar.specs.Grammar.{IsRuleOf, IsSymbolOf};
-ghost use Rattle.cs_goals.specs.Goal.{IsOccurrence};
+ghost use Rattle.cs_goals.specs.Goal.{HasOccurrence, context_goal};
 ghost use Rattle.cs_least.specs.Embed.Contexts.{AreContextsOf};
 ghost use Rattle.cs_verdicts.specs.Positive.Occurrences.{IsCutAt};
 ghost use Rattle.cs_verdicts.specs.Positive.Verdict.{IsGoalCost, HasLeastIn, IsCodeIn};
 
 use crate::positive::sums::{USUAL_RULES, node_cost};
-use cs_goals::Goal;
+use cs_goals::Occurrence;
 use cs_grammar::{Derivation, Grammar, Rule, Symbol, place_of};
 use cs_least::{Contexts, Cost, Embeds};
 use std::alloc::{AllocError, Global};
 
 // The rules of a context goal, and the symbols beside the inner one's left side in the outer one's right side.
 #[derive(Clone, Copy)]
-struct Occurrence<'g> {
+struct Cut<'g> {
     outer: &'g Rule,
     before: &'g [Symbol],
     inner: &'g Rule,
     behind: &'g [Symbol],
 }
 
-fn occurrence_of<'g>(grammar: &'g Grammar, outer: u16, place: u16, inner: u16) -> Occurrence<'g>
-    requires { IsOccurrence grammar.now outer place inner }
-    ensures cut { IsCutAt grammar.now outer place inner result }
+fn cut_at<'g>(grammar: &'g Grammar, occurrence: Occurrence) -> Cut<'g>
+    requires { HasOccurrence grammar.now occurrence }
+    ensures cut { IsCutAt grammar.now occurrence result }
     ensures outer { IsRuleOf grammar.now.tokens grammar.now.nonterminals result.outer.now }
     ensures before { All (IsSymbolOf grammar.now) result.before.now }
     ensures inner { IsRuleOf grammar.now.tokens grammar.now.nonterminals result.inner.now }
     ensures behind { All (IsSymbolOf grammar.now) result.behind.now }
 {
-    let outer_rule = grammar.rule(outer);
+    let outer_rule = grammar.rule(occurrence.outer);
     let right = outer_rule.right();
-    Occurrence {
+    Cut {
         outer: outer_rule,
-        before: &right[..place_of(place)],
-        inner: grammar.rule(inner),
-        behind: &right[place as usize..],
+        before: &right[..place_of(occurrence.place)],
+        inner: grammar.rule(occurrence.inner),
+        behind: &right[occurrence.place as usize..],
     }
 }
 
 // What the least tree costs that meets a context goal.
-pub(crate) fn context_cost(embeds: &Embeds, outer: u16, place: u16, inner: u16) -> Cost
-    requires { IsOccurrence embeds.now.grammar outer place inner }
-    ensures { IsGoalCost embeds.now (Goal.Context outer place inner) result }
+pub(crate) fn context_cost(embeds: &Embeds, occurrence: Occurrence) -> Cost
+    requires { HasOccurrence embeds.now.grammar occurrence }
+    ensures { IsGoalCost embeds.now (context_goal occurrence) result }
 {
     let costs = embeds.costs();
-    let parts = occurrence_of(embeds.grammar(), outer, place, inner);
+    let parts = cut_at(embeds.grammar(), occurrence);
     let siblings = costs.plus(costs.sum(parts.before), costs.sum(parts.behind));
     let context = embeds.embed(parts.outer.left());
     let around = costs.plus(context, node_cost(costs, siblings));
@@ -58,25 +58,23 @@ pub(crate) fn context_cost(embeds: &Embeds, outer: u16, place: u16, inner: u16) 
 pub(crate) fn derive_context(
     alloc: Global,
     embeds: &Embeds,
-    outer: u16,
-    place: u16,
-    inner: u16,
+    occurrence: Occurrence,
     contexts: &mut Contexts,
 ) -> Result<Derivation, AllocError>
-    requires goal { IsOccurrence embeds.now.grammar outer place inner }
-    requires feasible { HasLeastIn embeds.now (Goal.Context outer place inner) }
+    requires goal { HasOccurrence embeds.now.grammar occurrence }
+    requires feasible { HasLeastIn embeds.now (context_goal occurrence) }
     requires contexts { AreContextsOf embeds.now contexts.old }
-    ensures code { IfOk result (IsCodeIn embeds.now (Goal.Context outer place inner)) }
+    ensures code { IfOk result (IsCodeIn embeds.now (context_goal occurrence)) }
     ensures contexts { AreContextsOf embeds.now contexts.new }
 {
     let costs = embeds.costs();
-    let parts = occurrence_of(embeds.grammar(), outer, place, inner);
+    let parts = cut_at(embeds.grammar(), occurrence);
     let around = contexts.take(embeds, parts.outer.left())?;
     let mut derivation = Derivation::with_capacity(alloc, USUAL_RULES)?;
     derivation.extend_from_slice(&around.context.before)?;
-    derivation.push(outer)?;
+    derivation.push(occurrence.outer)?;
     costs.all_into(parts.before, &mut derivation)?;
-    derivation.push(inner)?;
+    derivation.push(occurrence.inner)?;
     costs.all_into(parts.inner.right(), &mut derivation)?;
     costs.all_into(parts.behind, &mut derivation)?;
     derivation.extend_from_slice(&around.context.after)?;

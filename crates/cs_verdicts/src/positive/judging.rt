@@ -10,7 +10,7 @@ use crate::positive::pairs::judge_pair;
 use crate::positive::rules::{derive_rule, rule_cost};
 use crate::positive::tables::Tables;
 use crate::positive::verdict::Verdict;
-use cs_goals::Goal;
+use cs_goals::{Goal, Occurrence};
 use cs_grammar::Derivation;
 use cs_least::{Contexts, Cost, Embeds};
 use cs_pairs::Kept;
@@ -90,7 +90,14 @@ fn goal_cost(embeds: &Embeds, goal: &Goal) -> Cost
             outer,
             place,
             inner,
-        } => context_cost(embeds, outer, place, inner),
+        } => context_cost(
+            embeds,
+            Occurrence {
+                outer,
+                place,
+                inner,
+            },
+        ),
         Goal::Pair { .. } => unreachable!(),
     }
 }
@@ -115,7 +122,16 @@ fn derive_goal(
             outer,
             place,
             inner,
-        } => derive_context(alloc, embeds, outer, place, inner, contexts),
+        } => derive_context(
+            alloc,
+            embeds,
+            Occurrence {
+                outer,
+                place,
+                inner,
+            },
+            contexts,
+        ),
         Goal::Pair { .. } => unreachable!(),
     }
 }

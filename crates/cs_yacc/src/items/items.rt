@@ -82,7 +82,7 @@ pub fn read_items(alloc: Global, bytes: &[u8]) -> Result<Vec<Placed<'_>>, ItemsE
 }
 
 /// Bytes are read into items, or reading stops: a law, which takes no memory.
-pub fn read_or_stopped(bytes: &[u8])
+pub(crate) fn read_or_stopped(bytes: &[u8])
     requires { length bytes.now ≤ most_bytes }
     ensures { IsRead bytes.now ⊎ IsStopped bytes.now }
 {

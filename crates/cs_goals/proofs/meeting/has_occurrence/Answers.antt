@@ -9,27 +9,27 @@ use Rattle.cs_goals.specs.declared.goal.Goal.TheVariants.{Context}
 use Rattle.cs_goals.specs.Awaits.{awaits}
 use Rattle.cs_goals.specs.Meets.{IsMeeting}
 use Rattle.cs_goals.proofs.Awaiting.{Waits, waits_none, waits_all, turn, popped}
-use Rattle.cs_goals.proofs.meeting.meets_context.Goals as goal
-use Rattle.cs_goals.proofs.meeting.meets_context.Goals.{else-is_awaited-via-then-is_awaited+else-number-inner, else-is_awaited-via-else-is_awaited, then-number-outer, else-number-outer}
+use Rattle.cs_goals.proofs.meeting.has_occurrence.Goals as goal
+use Rattle.cs_goals.proofs.meeting.has_occurrence.Goals.{else-is_awaited-via-then-is_awaited+else-number-inner, else-is_awaited-via-else-is_awaited, then-number-outer, else-number-outer}
 
 pub loop-number-init : goal.loop-number-init
 loop-number-init c =
     let g = c.args.grammar.now in
-    let start = waits_none g c.args.derivation.now c.args.outer c.args.place c.args.inner c.requires in
-    let at_start = subst (λ (rules : List ℕ). Waits g rules rules (false ∷ []) c.args.outer c.args.place c.args.inner) (sym c.rules-number-items.ensures) start in
+    let start = waits_none g c.args.derivation.now c.args.occurrence.outer c.args.occurrence.place c.args.occurrence.inner c.requires in
+    let at_start = subst (λ (rules : List ℕ). Waits g rules rules (false ∷ []) c.args.occurrence.outer c.args.occurrence.place c.args.occurrence.inner) (sym c.rules-number-items.ensures) start in
     rw c.in_ok-pending.ensures.items at_start
 
 pub returns-then-number-inner : goal.returns-then-number-inner
 returns-then-number-inner c =
     let g = c.args.grammar.now in
-    let t = turn g c.rules-number-items.result.now c.args.outer c.args.place c.args.inner c.loop-number.number-index (reverse c.loop-number.pending.items) c.loop-number-test.true c.loop-number.invariant in
+    let t = turn g c.rules-number-items.result.now c.args.occurrence.outer c.args.occurrence.place c.args.occurrence.inner c.loop-number.number-index (reverse c.loop-number.pending.items) c.loop-number-test.true c.loop-number.invariant in
     let top = popped c.loop-number.pending.items _ c.pop.result _ _ t.awaited t.others c.pop.ensures.items c.pop.ensures.cases c.loop-number.pending.ok.0 t.pending_is in
     let met = t.met (sym top.0 ∙ sym c.unwrap_or-is_awaited.ensures ∙ c.if-is_awaited.true) c.if-number-inner.true in
-    (λ _. subst (IsMeeting g (Context c.args.outer c.args.place c.args.inner)) c.rules-number-items.ensures met, λ _. refl)
+    (λ _. subst (IsMeeting g (Context c.args.occurrence.outer c.args.occurrence.place c.args.occurrence.inner)) c.rules-number-items.ensures met, λ _. refl)
 
 pub rule-rule-requires : goal.rule-rule-requires
 rule-rule-requires c =
-    let t = turn c.args.grammar.now c.rules-number-items.result.now c.args.outer c.args.place c.args.inner c.loop-number.number-index (reverse c.loop-number.pending.items) c.loop-number-test.true c.loop-number.invariant in
+    let t = turn c.args.grammar.now c.rules-number-items.result.now c.args.occurrence.outer c.args.occurrence.place c.args.occurrence.inner c.loop-number.number-index (reverse c.loop-number.pending.items) c.loop-number-test.true c.loop-number.invariant in
     IsNumberOf-rule c.args.grammar.now _ t.rule t.number
 
 pub loop-number-preserved : goal.loop-number-preserved
@@ -38,18 +38,18 @@ loop-number-preserved c =
     let rules = c.rules-number-items.result.now in
     let at = c.loop-number.number-index in
     let place = c.if-number-outer.await_child in
-    let t = turn g rules c.args.outer c.args.place c.args.inner at (reverse c.loop-number.pending.items) c.loop-number-test.true c.loop-number.invariant in
+    let t = turn g rules c.args.occurrence.outer c.args.occurrence.place c.args.occurrence.inner at (reverse c.loop-number.pending.items) c.loop-number-test.true c.loop-number.invariant in
     let top = popped c.loop-number.pending.items _ c.pop.result _ _ t.awaited t.others c.pop.ensures.items c.pop.ensures.cases c.loop-number.pending.ok.0 t.pending_is in
-    let not_met : t.awaited ≡ true → get_or rules at 0 ≡ c.args.inner → ⊥ = λ yes is. elim c.else-is_awaited.branch [
+    let not_met : t.awaited ≡ true → get_or rules at 0 ≡ c.args.occurrence.inner → ⊥ = λ yes is. elim c.else-is_awaited.branch [
       | else-is_awaited-via-then-is_awaited+else-number-inner w ↦ w.if-number-inner.false is
       | else-is_awaited-via-else-is_awaited w ↦
           (let flag : c.unwrap_or-is_awaited.result ≡ true = c.unwrap_or-is_awaited.ensures ∙ top.0 ∙ yes in let other = w.if-is_awaited.false in cc)
     ] in
-    let is_outer : get_or rules at 0 ≡ c.args.outer → place ≡ c.args.place = λ same. elim c.if-number-outer.branch [
+    let is_outer : get_or rules at 0 ≡ c.args.occurrence.outer → place ≡ c.args.occurrence.place = λ same. elim c.if-number-outer.branch [
       | then-number-outer w ↦ w.await_child-is
       | else-number-outer w ↦ absurd (w.if-number-outer.false same)
     ] in
-    let not_outer : (get_or rules at 0 ≡ c.args.outer → ⊥) → place ≡ 0 = λ other. elim c.if-number-outer.branch [
+    let not_outer : (get_or rules at 0 ≡ c.args.occurrence.outer → ⊥) → place ≡ 0 = λ other. elim c.if-number-outer.branch [
       | then-number-outer w ↦ absurd (other w.if-number-outer.true)
       | else-number-outer w ↦ w.await_child-is
     ] in
@@ -60,12 +60,12 @@ loop-number-preserved c =
     ∙ ap (λ (l : List Bool). awaits place c.rule-rule.result.now.right ++ l) (sym top.1)
     ∙ ap (λ (xs : List Symbol). awaits place xs ++ reverse c.pop.new.self.items) (sym c.right.ensures)
     ∙ sym c.in_ok-await_child.ensures in
-    subst (λ (l : List Bool). Waits g rules (drop (at + 1) rules) l c.args.outer c.args.place c.args.inner) same after
+    subst (λ (l : List Bool). Waits g rules (drop (at + 1) rules) l c.args.occurrence.outer c.args.occurrence.place c.args.occurrence.inner) same after
 
 pub returns : goal.returns
 returns c =
     let g = c.args.grammar.now in
     let rules = c.rules-number-items.result.now in
-    let context = Context c.args.outer c.args.place c.args.inner in
-    let never = waits_all g rules c.args.outer c.args.place c.args.inner (reverse c.loop-number.pending.items) (drop c.loop-number.number-index rules) (drop_all c.loop-number.number-index rules c.loop-number-test.false) c.loop-number.invariant in
+    let context = Context c.args.occurrence.outer c.args.occurrence.place c.args.occurrence.inner in
+    let never = waits_all g rules c.args.occurrence.outer c.args.occurrence.place c.args.occurrence.inner (reverse c.loop-number.pending.items) (drop c.loop-number.number-index rules) (drop_all c.loop-number.number-index rules c.loop-number-test.false) c.loop-number.invariant in
     (λ no. absurd cc, λ m. absurd (never (subst (IsMeeting g context) (sym c.rules-number-items.ensures) m)))
