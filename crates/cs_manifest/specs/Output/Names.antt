@@ -1,5 +1,5 @@
 -- Which numbers have names, and the names of tokens, one behind another; the names themselves are those of `Names` of cs_yacc.
-use Rattle.std.specs.Prelude.{ℕ, ◌-◌, List, ◌∷◌, ◌++◌, codes, length, All}
+use Rattle.std.specs.Prelude.{ℕ, List, ◌∷◌, ◌++◌, codes, length, All}
 use Rattle.cs_bytes.specs.Names.{newline}
 use Rattle.cs_grammar.specs.declared.symbol.Symbol.{Symbol}
 use Rattle.cs_grammar.specs.declared.symbol.Mark.{Mark}

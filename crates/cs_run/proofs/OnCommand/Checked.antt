@@ -1,5 +1,5 @@
 -- How a run ends that writes of a manifest, from what its call did.
-use Rattle.std.proofs.Common.{◌≡◌, ◌≤◌, ℕ, Bool, true, false, List, Result, Ok, Err, refl, sym, subst, inl, inr}
+use Rattle.std.proofs.Common.{◌≡◌, ℕ, Bool, true, false, List, Result, Ok, Err, refl, sym, subst, inr}
 use Rattle.std.specs.Prelude.{IfOk, OnErr, OnOk}
 use Rattle.cs_check_text.specs.Text.{Answers, IsCheckText}
 use Rattle.cs_io.specs.Asked.{GrewByOne, GrewByPart, HasRoomForAll, Stopped}

@@ -1,5 +1,5 @@
 -- How a run ends that writes what was asked for, from what its calls did.
-use Rattle.std.proofs.Common.{◌≡◌, ◌⊎◌, ◌<◌, ◌≤◌, ◌^◌, ℕ, List, [], ◌∷◌, IsTrue, true, false, Option, None, Ok, Err, length, refl, sym, ap, ◌∙◌, subst, inl, inr, arith}
+use Rattle.std.proofs.Common.{◌≡◌, ◌<◌, ◌≤◌, ℕ, List, [], ◌∷◌, IsTrue, true, false, Option, None, Ok, Err, length, refl, sym, ap, ◌∙◌, subst, inl, inr, arith}
 use Rattle.cs_io.specs.Uses.{DeskUse, SinkUse, IsUnused}
 use Rattle.cs_io.specs.declared.halt.Halt.TheVariants.{Failed, Memory}
 use Rattle.cs_run.specs.declared.input.judging.Meant.{Meant}
@@ -41,7 +41,7 @@ use Rattle.cs_deep.specs.Membership.{IsMemberText}
 use Rattle.cs_run.specs.Ending.Summary.{IsSummary}
 use Rattle.cs_run.specs.Ending.Texts.{Denies, IsTextBy, IsTextOf, IsTextOfPair, NoneDenies}
 use Rattle.cs_run.specs.Writer.Suite.{IsRules, IsSuite}
-use Rattle.cs_io.specs.Asked.{GrewByPart, HasRoomForAll}
+use Rattle.cs_io.specs.Asked.{HasRoomForAll}
 use Rattle.cs_run.specs.Command.Carrying.{CarriesOut, GrewByEach, GrewBySome, HasTooManyChains, HasTooManyStates, TakesGrammar, TakesPair, TakesThird, Writes, WritesBy, WritesByPair, WritesOfGrammar, WritesOfPair, WritesSummary, WritesSure, WritingEnds}
 use Rattle.cs_run.specs.Command.Words.{AskForNoFiles, PerformsFor, ending_of}
 use Rattle.cs_run.proofs.OnInput.Meanings.{one_meaning}

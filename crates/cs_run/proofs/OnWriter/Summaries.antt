@@ -1,12 +1,11 @@
 -- The pair of files that a number stands for has a summary.
-use Rattle.std.proofs.Common.{◌≡◌, ℕ, ◌≤◌, List, length, sym, ap, ◌∙◌, subst, inl, inr, arith}
+use Rattle.std.proofs.Common.{◌≡◌, ℕ, ◌≤◌, List, length, ap, ◌∙◌, subst, inl, inr, arith}
 use Rattle.cs_gen.specs.Boundary.{HasFewSets, IsAcceptedBesideAll}
 use Rattle.cs_gen.specs.declared.files.Generated.{Generated}
 use Rattle.cs_gen.specs.Texts.{lex_text, yacc_text}
 use Rattle.cs_yacc.specs.Reading.File as yacc
 use Rattle.cs_yacc.proofs.OnReading.OneFile as yacc_files
 use Rattle.cs_lex.specs.Reading.File as lex
-use Rattle.cs_lex.specs.Reading.Reading.{IsLexFile}
 use Rattle.cs_lex.proofs.OnReading.OneFile as lex_files
 use Rattle.cs_run.specs.declared.input.judging.Pair.{Pair}
 use Rattle.cs_run.specs.Input.Files.{IsPairOf}
@@ -16,8 +15,7 @@ use Rattle.cs_run.specs.declared.input.refusal.Refusal.TheVariants.{ManyChains, 
 use Rattle.cs_lex.proofs.OnReading.OneRefusal as lex_refusal
 use Rattle.cs_yacc.specs.Reading.Reading.{IsAccepted}
 use Rattle.cs_manifest.specs.declared.manifest.counts.Counts.{Counts}
-use Rattle.cs_manifest.specs.Manifest.Manifest.{IsManifest}
-use Rattle.cs_run.specs.Ending.Files.{IsSuiteText, choice_of}
+use Rattle.cs_run.specs.Ending.Files.{IsSuiteText}
 use Rattle.cs_run.specs.Ending.Summary.{HasCounts, IsManifestOf, IsSummary, Lengths, lengths_of, summary_line, summary_options}
 use Rattle.cs_writing.specs.Writing.Writing.{CountsOfAll, HasNoCases}
 use Rattle.cs_run.specs.Writer.Suite.{IsSuite}

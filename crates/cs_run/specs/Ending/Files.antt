@@ -1,5 +1,5 @@
 -- Which files are accepted and refused, and the manifests of accepted ones. Where the desk tells no files, any contents count.
-use Rattle.std.specs.Prelude.{◌≡◌, ◌⊎◌, ◌<◌, ◌≤◌, ℕ, List, Option, IsTrue, None, Some, length}
+use Rattle.std.specs.Prelude.{◌≡◌, ◌⊎◌, ◌<◌, ◌≤◌, ℕ, List, Option, IsTrue, Some, length}
 use Rattle.cs_chain.specs.Chains.Chains.{chains}
 use Rattle.cs_grammar.specs.Grammar.{PlainGrammar}
 use Rattle.cs_io.specs.Desk.{Files}

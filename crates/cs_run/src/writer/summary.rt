@@ -7,8 +7,7 @@ ghost use Rattle.cs_run.specs.Writer.Suite.{IsSuite, IsSuiteBy};
 ghost use Rattle.cs_run.specs.Writer.Summary.{AreShort, HasSuite, HasSuiteBy, HasNumberMore, IsLineOf};
 ghost use Rattle.cs_io.specs.declared.halt.Halt.TheVariants.{Failed};
 ghost use Rattle.cs_writing.specs.Writing.Writing.{CountsOfAll, HasNoCases};
-ghost use Rattle.cs_io.specs.Asked.{IsCalmForAll, MetFault, MetNone};
-ghost use Rattle.cs_io.specs.Asked.{Stopped, TookOne};
+ghost use Rattle.cs_io.specs.Asked.{IsCalmForAll, MetFault, MetNone, Stopped, TookOne};
 ghost use Rattle.cs_deep.specs.Membership.{TookSomeFront};
 ghost use Rattle.cs_scanner.specs.Scan.Compared.{scanning};
 

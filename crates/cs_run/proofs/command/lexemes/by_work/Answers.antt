@@ -1,10 +1,9 @@
 -- The separator of the texts is that of the options.
-use Rattle.std.proofs.Common.{ap, sym, subst, refl, List, ℕ, Some}
+use Rattle.std.proofs.Common.{sym, subst, refl, List, ℕ, Some}
 use Rattle.cs_io.specs.Uses.{used}
 use Rattle.cs_chain_text.specs.Text.{IsChainsText}
 use Rattle.cs_choices.specs.declared.format.Format.TheVariants.{One}
 use Rattle.cs_deep.specs.Deep.{IsDeepText}
-use Rattle.cs_manifest.specs.Manifest.Manifest.{Texts}
 use Rattle.cs_run.specs.Command.Scanned.{WritesByScanner, WritesChains}
 use Rattle.cs_words.specs.declared.command.Command.TheVariants.{OfPair}
 use Rattle.cs_words.specs.declared.command.PairCommand.{PairCommand}

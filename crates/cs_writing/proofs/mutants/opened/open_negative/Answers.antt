@@ -1,5 +1,5 @@
 -- The token that the edit puts is in the pair, where the negative can be told without it.
-use Rattle.std.proofs.Common.{◌≡◌, ℕ, Option, sym, subst}
+use Rattle.std.proofs.Common.{ℕ, Option, sym, subst}
 use Rattle.std.specs.Prelude.{IsTrue, is_some}
 use Rattle.cs_manifest.specs.declared.filling.open.OpenEdit.{OpenEdit}
 use Rattle.cs_manifest.specs.declared.filling.open.OpenEdit.TheVariants.{Insert, Replace}
