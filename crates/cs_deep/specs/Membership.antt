@@ -6,9 +6,9 @@ use Rattle.cs_io.specs.Sink.{GrewByPrefix}
 use Rattle.cs_io.specs.declared.sink.Sink as Sink
 use Rattle.cs_manifest.specs.Manifest.Lines.{derive_line}
 use Rattle.cs_manifest.specs.Output.Words.{line}
-use Rattle.cs_member.specs.Membership.{IsMembership}
-use Rattle.cs_member.specs.declared.membership.Membership.{Membership}
-use Rattle.cs_member.specs.declared.membership.Membership.TheVariants.{Inside, Outside}
+use Rattle.cs_member.specs.Membership.Membership.{IsMembership}
+use Rattle.cs_member.specs.declared.membership.membership.Membership.{Membership}
+use Rattle.cs_member.specs.declared.membership.membership.Membership.TheVariants.{Inside, Outside}
 
 abbrev pub outside_line : List ℕ
 outside_line = line (codes "outside")

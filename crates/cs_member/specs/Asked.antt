@@ -4,34 +4,34 @@ use Rattle.std.specs.Int.{bit_at}
 use Rattle.std.specs.Global.{Vec}
 use Rattle.cs_grammar.specs.Grammar.{PlainGrammar}
 use Rattle.cs_grammar.specs.Sentence.{IsSentence}
-use Rattle.cs_member.specs.declared.item.Item.{Item}
-use Rattle.cs_member.specs.declared.word.Word.{Word}
-use Rattle.cs_member.specs.declared.fronts.Front.{Front}
-use Rattle.cs_member.specs.declared.empties.Empties.{Empties}
-use Rattle.cs_member.specs.declared.now.Question.{Question}
-use Rattle.cs_member.specs.declared.now.Now.{Now}
-use Rattle.cs_member.specs.declared.now.Origins.{Origins}
-use Rattle.cs_member.specs.declared.now.Span.{Span}
-use Rattle.cs_member.specs.declared.now.Way.{Way}
-use Rattle.cs_member.specs.declared.chart.Position.{Position}
-use Rattle.cs_member.specs.declared.chart.Row.{Row}
-use Rattle.cs_member.specs.declared.chart.Begun.{Begun}
-use Rattle.cs_member.specs.declared.back.Back.{Back}
-use Rattle.cs_member.specs.declared.back.Sought.{Sought}
-use Rattle.cs_member.specs.declared.back.Sought.TheVariants.{Exactly}
-use Rattle.cs_member.specs.declared.back.WayBack.{WayBack}
-use Rattle.cs_member.specs.declared.writing.Task.{Task}
-use Rattle.cs_member.specs.declared.writing.Task.TheVariants.{Trees}
-use Rattle.cs_member.specs.Item.{IsItem, over}
-use Rattle.cs_member.specs.Buckets.{rows_in}
-use Rattle.cs_member.specs.Sets.{Has, InWords}
-use Rattle.cs_member.specs.Now.{SpansIn, Ends, Stood, IsHere, AreHere, ArePassed, IsPut, ArePut}
-use Rattle.cs_member.specs.Tables.{AreRounds}
-use Rattle.cs_member.specs.Expecting.{Marks, AreDescents, AreAwaited, IsDescended}
-use Rattle.cs_member.specs.Chart.{OfRows, OfFronts, OfScan, OfSpan, AreCaused, IsFollowed, AreRows}
-use Rattle.cs_member.specs.Made.{IsScanned, IsFrom, IsMade, IsChart}
-use Rattle.cs_member.specs.Back.{Meets, IsPlaceSought, LeadsTo, NoneLeads, IsBehind, IsInRows, IsOfFronts, OfSymbol, IsBefore, OfChild, IsBack, IsFound}
-use Rattle.cs_member.specs.Writing.{Writes, IsTaken, IsTakenBelow, IsAbove, IsWhole}
+use Rattle.cs_member.specs.declared.tables.item.Item.{Item}
+use Rattle.cs_member.specs.declared.tables.word.Word.{Word}
+use Rattle.cs_member.specs.declared.tables.fronts.Front.{Front}
+use Rattle.cs_member.specs.declared.tables.empties.Empties.{Empties}
+use Rattle.cs_member.specs.declared.chart.now.Question.{Question}
+use Rattle.cs_member.specs.declared.chart.now.Now.{Now}
+use Rattle.cs_member.specs.declared.chart.now.Origins.{Origins}
+use Rattle.cs_member.specs.declared.chart.now.Span.{Span}
+use Rattle.cs_member.specs.declared.chart.now.Way.{Way}
+use Rattle.cs_member.specs.declared.chart.chart.Position.{Position}
+use Rattle.cs_member.specs.declared.chart.chart.Row.{Row}
+use Rattle.cs_member.specs.declared.chart.chart.Begun.{Begun}
+use Rattle.cs_member.specs.declared.derivation.back.Back.{Back}
+use Rattle.cs_member.specs.declared.derivation.back.Sought.{Sought}
+use Rattle.cs_member.specs.declared.derivation.back.Sought.TheVariants.{Exactly}
+use Rattle.cs_member.specs.declared.derivation.back.WayBack.{WayBack}
+use Rattle.cs_member.specs.declared.derivation.writing.Task.{Task}
+use Rattle.cs_member.specs.declared.derivation.writing.Task.TheVariants.{Trees}
+use Rattle.cs_member.specs.Tables.Item.{IsItem, over}
+use Rattle.cs_member.specs.Chart.Buckets.{rows_in}
+use Rattle.cs_member.specs.Tables.Sets.{Has, InWords}
+use Rattle.cs_member.specs.Chart.Now.{SpansIn, Ends, Stood, IsHere, AreHere, ArePassed, IsPut, ArePut}
+use Rattle.cs_member.specs.Tables.Tables.{AreRounds}
+use Rattle.cs_member.specs.Tables.Expecting.{Marks, AreDescents, AreAwaited, IsDescended}
+use Rattle.cs_member.specs.Chart.Chart.{OfRows, OfFronts, OfScan, OfSpan, AreCaused, IsFollowed, AreRows}
+use Rattle.cs_member.specs.Chart.Made.{IsScanned, IsFrom, IsMade, IsChart}
+use Rattle.cs_member.specs.Derivation.Back.{Meets, IsPlaceSought, LeadsTo, NoneLeads, IsBehind, IsInRows, IsOfFronts, OfSymbol, IsBefore, OfChild, IsBack, IsFound}
+use Rattle.cs_member.specs.Derivation.Writing.{Writes, IsTaken, IsTakenBelow, IsAbove, IsWhole}
 
 -- the chart of the question's list
 abbrev pub IsChartOf : Question → List Position → Type 0

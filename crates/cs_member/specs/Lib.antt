@@ -1,15 +1,5 @@
-pub mod Item
-pub mod Sets
-pub mod Closed
-pub mod Now
 pub mod Tables
-pub mod Adding
-pub mod Fronts
-pub mod Buckets
 pub mod Chart
-pub mod Expecting
-pub mod Made
-pub mod Back
+pub mod Derivation
 pub mod Membership
-pub mod Writing
 pub mod Asked

@@ -1,5 +1,12 @@
 //! Membership: whether a list of tokens is a sentence of a grammar, with a derivation of it.
 //!
+//! The parts, from the bottom up; none stands on one behind it:
+//!
+//! - `tables`: what a grammar says of its items, worked out once for all lists.
+//! - `chart`: the chart of a list: what is found at each position.
+//! - `derivation`: the derivation of a list, by the way back through its chart.
+//! - `membership`: the answer: a derivation, or that there is none; for one list, for many, and by workers.
+//!
 //! # What it is for
 //!
 //! The layers above hand in a grammar and a list of its tokens, and get by `member` a derivation whose yield is the
@@ -12,8 +19,8 @@
 //!
 //! # What a contract sees
 //!
-//! A grammar, a list and an answer. Meaning: `specs/Membership.antt`. The other files of `specs/` have working words of
-//! proofs.
+//! A grammar, a list and an answer. Meaning: `specs/Membership/Membership`. The other files of `specs/` have working
+//! words of proofs, `Asked` those of all parts.
 //!
 //! # What is proved
 //!
@@ -26,24 +33,12 @@
 //! lists, and workers: by `test_member`. Which of several derivations is given isn't said.
 #![tactic(auto)]
 
-mod adding;
-mod back;
-mod buckets;
 mod chart;
-mod descents;
-mod empties;
-mod fronts;
-mod item;
+mod derivation;
 mod membership;
-mod now;
-mod sharing;
 mod tables;
-mod word;
-mod work;
-mod writing;
 
-pub use membership::{Membership, Recognizer, member};
-pub use work::MemberWork;
+pub use membership::{MemberWork, Membership, Recognizer, member};
 
 /// The most tokens of a list.
 pub const MOST_LENGTH: usize = 2_000;

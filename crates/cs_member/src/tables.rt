@@ -1,66 +1,23 @@
-// What a grammar says of its items, worked out once.
+//! What a grammar says of its items, worked out once for all lists.
+//!
+//! An [`Item`] is a rule up to a place. The layer above makes the [`Tables`] of a grammar: which nonterminals have a tree of
+//! empty yield, with a least such tree of each; the fronts of rules by the symbols that they begin with; and with which
+//! nonterminals the rules of each may begin. Sets of numbers are kept as bits, or as those words that aren't 0.
+//!
+//! All files of `specs/Tables/` have working words of proofs: `Item` (items, and what stands behind their places), `Sets`, `Adding`
+//! (lists by number), `Fronts`, `Tables` (what the tables say of the grammar), `Expecting` (which nonterminals are expected).
 
-ghost use Rattle.std.specs.Prelude.{IfOk};
-ghost use Rattle.cs_member.specs.Tables.{HasPlaces};
-ghost use Rattle.cs_member.specs.Made.{IsTables};
+mod adding;
+mod descents;
+mod empties;
+mod fronts;
+mod item;
+mod tables;
+mod word;
 
-use crate::descents::descents_of;
-use crate::empties::empties_of;
-use crate::fronts::{Front, fronts_of};
-use crate::word::Word;
-use cs_grammar::Grammar;
-use smallvec::SmallVec;
-use std::alloc::{AllocError, Global};
-
-// What membership needs to know of a grammar.
-#[derive(Debug, Drop)]
-pub(crate) struct Tables {
-    // By nonterminal: a rule of an empty tree, or 0; and the round in which it was found.
-    pub(crate) empties: Vec<u16>,
-    pub(crate) rounds: Vec<u16>,
-    // By token, by nonterminal: where rules begin with it behind symbols that have empty trees.
-    pub(crate) tokens: Vec<Vec<Front>>,
-    pub(crate) nonterminals: Vec<Vec<Front>>,
-    // By nonterminal: what its rules begin with behind symbols that have empty trees.
-    pub(crate) corners: Vec<Vec<u16>>,
-    // By nonterminal: those with which its rules may begin, itself among them.
-    pub(crate) descents: Vec<SmallVec<Word, 1>>,
-    // By rule: how many items are before its own.
-    pub(crate) bases: Vec<usize>,
-    pub(crate) items: usize,
-}
-
-// By rule: how many items are before its own; and how many there are.
-fn bases_of(alloc: Global, grammar: &Grammar) -> Result<(Vec<usize>, usize), AllocError>
-    ensures { IfOk result (λ r. HasPlaces grammar.now r.0.items r.1) }
-{
-    let mut bases = Vec::new(alloc);
-    let mut items = 0usize;
-    for rule in grammar.rules() {
-        bases.push(items)?;
-        items += rule.right().len() + 1;
-    }
-    Ok((bases, items))
-}
-
-impl Tables {
-    pub(crate) fn new(alloc: Global, grammar: &Grammar) -> Result<Tables, AllocError>
-        ensures { IfOk result (IsTables grammar.now) }
-    {
-        let _well_formed = grammar.rules();
-        let empties = empties_of(alloc, grammar)?;
-        let fronts = fronts_of(alloc, grammar, &empties.rules)?;
-        let descents = descents_of(alloc, &fronts.corners, grammar.nonterminals())?;
-        let (bases, items) = bases_of(alloc, grammar)?;
-        Ok(Tables {
-            empties: empties.rules,
-            rounds: empties.rounds,
-            tokens: fronts.tokens,
-            nonterminals: fronts.nonterminals,
-            corners: fronts.corners,
-            descents,
-            bases,
-            items,
-        })
-    }
-}
+pub(crate) use adding::add_at;
+pub(crate) use empties::have_empty;
+pub(crate) use fronts::Front;
+pub(crate) use item::{Item, Next, next_of, over, same};
+pub(crate) use tables::Tables;
+pub(crate) use word::{Word, add_all, add_bits, bits_at, clear_bits, has, pack, stands, word_of};

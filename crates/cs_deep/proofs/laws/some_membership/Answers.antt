@@ -4,9 +4,9 @@ use Rattle.cs_deep.specs.Membership.{membership_lines, outside_line}
 use Rattle.cs_grammar.specs.Grammar.{PlainGrammar}
 use Rattle.cs_grammar.specs.Sentence.{IsSentence}
 use Rattle.cs_grammar.specs.Tree.{code}
-use Rattle.cs_member.specs.Membership.{IsMembership}
-use Rattle.cs_member.specs.declared.membership.Membership.{Membership}
-use Rattle.cs_member.specs.declared.membership.Membership.TheVariants.{Inside, Outside}
+use Rattle.cs_member.specs.Membership.Membership.{IsMembership}
+use Rattle.cs_member.specs.declared.membership.membership.Membership.{Membership}
+use Rattle.cs_member.specs.declared.membership.membership.Membership.TheVariants.{Inside, Outside}
 use Rattle.cs_deep.proofs.laws.some_membership.Goals as goal
 
 told : (g : PlainGrammar) (tokens text : List ℕ) (m : Membership) → IsMembership g tokens m → text ≡ membership_lines m → (text ≡ outside_line) ↔ (IsSentence g tokens → ⊥)

@@ -2,7 +2,7 @@
 use Rattle.std.proofs.Common.{List, ℕ, ap}
 use Rattle.cs_deep.specs.Membership.{membership_lines}
 use Rattle.cs_manifest.proofs.OnOutput.Pieces.{spelled, then}
-use Rattle.cs_member.specs.declared.membership.Membership.TheVariants.{Inside}
+use Rattle.cs_member.specs.declared.membership.membership.Membership.TheVariants.{Inside}
 use Rattle.cs_deep.proofs.membership.put_lines.Goals as goal
 
 pub returns-in-Inside : goal.returns-in-Inside

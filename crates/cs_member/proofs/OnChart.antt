@@ -1,0 +1,12 @@
+pub mod Rows
+pub mod Ending
+pub mod Putting
+pub mod Puts
+pub mod Following
+pub mod Bucketing
+pub mod Placing
+pub mod Marking
+pub mod Making
+pub mod Closing
+pub mod Completeness
+pub mod Outside

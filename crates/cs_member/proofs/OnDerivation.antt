@@ -1,0 +1,4 @@
+pub mod Leading
+pub mod Backing
+pub mod Spelling
+pub mod Weighing

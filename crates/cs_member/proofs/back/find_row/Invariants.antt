@@ -1,7 +1,0 @@
-use Rattle.std.proofs.Common.{take}
-use Rattle.cs_member.specs.Chart.{OfRows}
-use Rattle.cs_member.specs.Back.{NoneLeads}
-use Rattle.cs_member.proofs.back.find_row.Given as goal
-
-abbrev pub invariant-loop-row : goal.invariant-loop-row
-invariant-loop-row l = NoneLeads l.question.grammar.now l.sought (λ x. OfRows (take l.row-index l.rows) x l.from)

@@ -1,6 +1,0 @@
-use Rattle.std.proofs.Common.{◌+◌}
-use Rattle.cs_member.proofs.Ending.{AreEndsFrom}
-use Rattle.cs_member.proofs.now.forget_ends.Given as goal
-
-abbrev pub invariant-loop-span : goal.invariant-loop-span
-invariant-loop-span l = AreEndsFrom (l.grammar.nonterminals + 1) l.ends.items l.spans l.span-index

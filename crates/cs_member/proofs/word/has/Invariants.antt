@@ -1,6 +1,0 @@
-use Rattle.std.proofs.Common.{take}
-use Rattle.cs_member.specs.Sets.{InWords}
-use Rattle.cs_member.proofs.word.has.Given as goal
-
-abbrev pub invariant-loop-word : goal.invariant-loop-word
-invariant-loop-word l = InWords (take l.word-index l.words) l.number → ⊥

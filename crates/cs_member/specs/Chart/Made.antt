@@ -1,0 +1,78 @@
+-- Charts that are made of a grammar's tables and a list of tokens.
+use Rattle.std.specs.Prelude.{◌≡◌, ◌<◌, ◌+◌, ◌⊎◌, ℕ, List, None, Some, Contains, length, take, slice_get}
+use Rattle.std.specs.Global.{Vec}
+use Rattle.cs_grammar.specs.declared.symbol.Symbol.TheVariants.{Token, Nonterminal}
+use Rattle.cs_member.specs.declared.tables.fronts.Front.{Front}
+use Rattle.cs_member.specs.Tables.Item.{Awaits, IsDone, IsFront, over}
+use Rattle.cs_member.specs.declared.chart.now.Span.{Span}
+use Rattle.cs_member.specs.Chart.Closed.{Sets}
+use Rattle.cs_grammar.specs.Grammar.{PlainGrammar}
+use Rattle.cs_member.specs.declared.tables.item.Item.{Item}
+use Rattle.cs_member.specs.declared.chart.now.Now.{Now}
+use Rattle.cs_member.specs.declared.chart.chart.Position.{Position}
+use Rattle.cs_member.specs.declared.tables.tables.Tables.{Tables}
+use Rattle.cs_member.specs.Chart.Now.{IsNow, ArePassed, IsKept, IsPast, StandsIn, SpansIn}
+use Rattle.cs_member.specs.Chart.Chart.{AreRows, AreBefore, OfScan, OfSpan, IsFollowed, ExpectedAt, StandsAt}
+use Rattle.cs_member.specs.Chart.Buckets.{AreBuckets, rows_in}
+use Rattle.cs_member.specs.Tables.Expecting.{AreAwaited, AreCorners, AreDescents, IsDescended}
+use Rattle.cs_member.specs.Tables.Sets.{Has}
+use Rattle.cs_member.specs.Tables.Tables.{IsQuestion}
+
+-- what follows from the token before the position is kept, where there is one
+abbrev pub IsScanned : PlainGrammar → Tables → List ℕ → List Position → Now → Type 0
+IsScanned g tables tokens before now = 0 < length before → (x : Item) (j : ℕ) → OfScan before tables.tokens.items tokens x j → IsKept g (slice_get tokens (length before)) now x j
+
+-- what is found comes from the token before the position, or from a span that was found before: the causes by which a derivation
+-- is found again
+pub record IsFrom (g : PlainGrammar) (tables : Tables) (tokens : List ℕ) (before : List Position) (now : Now) : Type 0 where
+  pub stands : (x : Item) (j : ℕ) → StandsIn now.origins.items x j
+      → ((first : Item) × OfScan before tables.tokens.items tokens first j × IsPast g first x)
+      ⊎ ((m : ℕ) × (s : Span) × (first : Item) × (slice_get now.spans.items m ≡ Some s) × OfSpan before tables.nonterminals.items s first j × IsPast g first x)
+  pub spans : (n : ℕ) (t : Span) → slice_get now.spans.items n ≡ Some t
+      → ((first : Item) × (x : Item) × (t.cause ≡ None) × OfScan before tables.tokens.items tokens first t.from × IsPast g first x × IsDone g x t.nonterminal)
+      ⊎ ((m : ℕ) × (s : Span) × (first : Item) × (x : Item) × (t.cause ≡ Some m) × (m < n) × (slice_get now.spans.items m ≡ Some s)
+      × OfSpan before tables.nonterminals.items s first t.from × IsPast g first x × IsDone g x t.nonterminal)
+
+-- the position behind these is made of what is found there
+pub record IsMade (g : PlainGrammar) (tables : Tables) (tokens : List ℕ) (before : List Position) (position : Position) : Type 0 where
+  pub now : Now
+  pub is_now : IsNow g now
+  pub before_here : AreBefore g (length before) now
+  pub passed : ArePassed g (slice_get tokens (length before)) now
+  pub scanned : IsScanned g tables tokens before now
+  pub followed : (n : ℕ) → n < length now.spans.items → IsFollowed g (slice_get tokens (length before)) before tables.nonterminals.items now n
+  pub from : IsFrom g tables tokens before now
+  pub buckets : AreBuckets position.rows
+  pub rows : AreRows g now.origins.items (rows_in position.rows)
+  pub first : length before ≡ 0 → ExpectedAt position g.start
+  pub awaited : AreAwaited g now.origins.items position.expected.items
+  pub closed : IsDescended tables.corners.items (Has position.expected.items)
+  pub spans : position.spans.items ≡ now.spans.items
+
+-- each position is made of those before it
+pub record IsChart (g : PlainGrammar) (tables : Tables) (tokens : List ℕ) (many : ℕ) (chart : List Position) : Type 0 where
+  pub long : length chart ≡ many
+  pub each : (i : ℕ) (position : Position) → slice_get chart i ≡ Some position → IsMade g tables tokens (take i chart) position
+
+-- a chart as sets
+abbrev pub sets_of : List Position → Sets
+sets_of chart = record {
+  Stands = λ i x j. (p : Position) × (slice_get chart i ≡ Some p) × StandsAt p x j;
+  Expected = λ i a. (p : Position) × (slice_get chart i ≡ Some p) × ExpectedAt p a;
+  Spans = λ i a j. (p : Position) × (slice_get chart i ≡ Some p) × SpansIn p.spans.items a j;
+}
+
+-- each front of a rule is in the tables
+pub record AreWhole (g : PlainGrammar) (tables : Tables) : Type 0 where
+  pub tokens : (a t : ℕ) (x : Item) (list : Vec Front) → IsFront g a x → Awaits g x (Token t) → slice_get tables.tokens.items t ≡ Some list
+      → (f : Front) × Contains list.items f × (f.left ≡ a) × (f.item ≡ over x)
+  pub nonterminals : (a b : ℕ) (x : Item) (list : Vec Front) → IsFront g a x → Awaits g x (Nonterminal b) → slice_get tables.nonterminals.items b ≡ Some list
+      → (f : Front) × Contains list.items f × (f.left ≡ a) × (f.item ≡ over x)
+  pub corners : (a b : ℕ) (x : Item) (list : Vec ℕ) → IsFront g a x → Awaits g x (Nonterminal b) → slice_get tables.corners.items a ≡ Some list → Contains list.items b
+
+-- the tables of this grammar
+pub record IsTables (g : PlainGrammar) (tables : Tables) : Type 0 where
+  pub question : IsQuestion g tables
+  pub corners : AreCorners (g.nonterminals + 1) tables.corners.items
+  pub descents : AreDescents (g.nonterminals + 1) tables.corners.items tables.descents.items
+  pub whole : AreWhole g tables
