@@ -1,19 +1,3 @@
-mod Batches
-mod Behind
-mod Counting
-mod EachOnce
-mod Ending
-mod Exact
-mod Few
-mod Filling
-mod Framed
-mod Judged
-mod Meeting
-mod OneWrong
-mod Placing
-mod Putting
-mod SomeWrong
-mod Table
-mod Taking
-mod Told
-mod Walking
+pub mod OnSlips
+pub mod OnClasses
+pub mod OnWriting

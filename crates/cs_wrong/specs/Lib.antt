@@ -1,13 +1,3 @@
-pub mod Classes
-pub mod Coming
-pub mod Entries
-pub mod Found
-pub mod Judging
-pub mod Lists
-pub mod Met
-pub mod Progress
-pub mod Put
 pub mod Slips
-pub mod Tally
-pub mod Text
-pub mod Walk
+pub mod Classes
+pub mod Writing

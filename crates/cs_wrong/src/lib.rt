@@ -1,5 +1,11 @@
 //! Wrong rules: negatives by slips of single rules.
 //!
+//! The parts, from the bottom up; none stands on one behind it:
+//!
+//! - `slips`: the slips of a grammar's rules, and the list of each.
+//! - `classes`: the class of each slip: whether its list is one for the text, or why it isn't.
+//! - `writing`: the text of `wrong`, written as it is made, and the laws.
+//!
 //! # What it is for
 //!
 //! A slip drops, doubles or exchanges a symbol of one rule. The layer above hands in what it has read and an output, and gets the
@@ -9,8 +15,9 @@
 //!
 //! # What a contract sees
 //!
-//! Which slips a grammar has, and in which order, is said by `specs/Slips.antt`, the list of one by `specs/Lists.antt`, its class
-//! by `specs/Classes.antt`, and the text by `specs/Text.antt`. The other files of `specs/` have working words of proofs.
+//! Which slips a grammar has, and in which order, is said by `specs/Slips/Slips`, the list of one by `specs/Slips/Lists`, its
+//! class by `specs/Classes/Classes`, and the text by `specs/Writing/Text`. The other files of `specs/` have working words of
+//! proofs.
 //!
 //! # What is proved
 //!
@@ -23,26 +30,13 @@
 //! That the calls answer where memory is ample, and what is written of worked rows: by `test_wrong`.
 #![tactic(auto)]
 
-mod class;
-mod classing;
-mod coming;
-mod judging;
-mod laws;
-mod lines;
-mod lists;
-mod met;
-mod slip;
+mod classes;
 mod slips;
-mod tally;
-mod walk;
 mod writing;
 
-pub use class::SlipClass;
-pub use laws::{
-    each_slip_once, each_wrong_list_once, one_list_of_slip, one_wrong_text, slips_add_up,
-    some_wrong_text, wrong_lists_are_no_sentences,
+pub use classes::SlipClass;
+pub use slips::{Change, Slip, SlipList, list_of, slips_of};
+pub use writing::{
+    Wrong, each_slip_once, each_wrong_list_once, one_list_of_slip, one_wrong_text, slips_add_up,
+    some_wrong_text, write_wrong, wrong_lists_are_no_sentences,
 };
-pub use lists::{SlipList, list_of};
-pub use slip::{Change, Slip};
-pub use slips::slips_of;
-pub use writing::{Wrong, write_wrong};

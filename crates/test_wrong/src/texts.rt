@@ -1,6 +1,6 @@
 // The texts of `wrong` of small files, worked by hand: `docs/FORMATS.md` gives their lines.
 
-ghost use Rattle.cs_wrong.specs.Text.{HaveLexemes};
+ghost use Rattle.cs_wrong.specs.Writing.Text.{HaveLexemes};
 
 use cs_choices::{NODE_LIMIT, Slips, Weigh};
 use cs_fan::{Crew, OpenGate};

@@ -17,7 +17,7 @@ use Rattle.cs_manifest.specs.Manifest.Manifest.{Texts}
 use Rattle.cs_spell.specs.Spelling.{IsSpelling}
 use Rattle.cs_deep.specs.Deep.{IsDeepText}
 use Rattle.cs_lexical.specs.Lines.{IsLexical}
-use Rattle.cs_wrong.specs.Text.{IsWrongText}
+use Rattle.cs_wrong.specs.Writing.Text.{IsWrongText}
 use Rattle.cs_scanner.specs.Scan.Scan.{Scanning}
 use Rattle.cs_manifest.specs.Manifest.Manifest.{Choice, IsManifest, rules_form}
 use Rattle.cs_words.specs.declared.command.Command.{Command}

@@ -1,6 +1,0 @@
--- Lexemes, classes, lists and renderings are one.
-use Rattle.cs_wrong.proofs.OneWrong.{one_text_of}
-use Rattle.cs_wrong.proofs.laws.one_wrong_text.Goals as goal
-
-pub returns : goal.returns
-returns c = λ file chosen texts weigh. one_text_of c.one_text.ensures file texts weigh chosen

@@ -1,6 +1,0 @@
--- Each entry is counted once.
-use Rattle.cs_wrong.proofs.OneWrong.{add_up}
-use Rattle.cs_wrong.proofs.laws.slips_add_up.Goals as goal
-
-pub returns : goal.returns
-returns c = add_up

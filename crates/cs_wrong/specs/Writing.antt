@@ -1,0 +1,5 @@
+pub mod Text
+pub mod Judging
+pub mod Tally
+pub mod Entries
+pub mod Progress
