@@ -1,11 +1,3 @@
-pub mod OnChoosing
-pub mod OnMatching
-pub mod OnPieces
-pub mod OnCounting
-pub mod Rendering
-pub mod Naming
-pub mod OneSpelling
-pub mod SomeSpelling
-pub mod Showing
-pub mod Judging
+pub mod OnTexts
+pub mod OnTelling
 pub mod OnWriting

@@ -1,15 +1,3 @@
-pub mod Chosen
-pub mod Choosing
 pub mod Texts
-pub mod Searching
-pub mod Pieces
-pub mod Gathered
-pub mod Told
-pub mod Lines
-pub mod Spelling
-pub mod Seen
 pub mod Telling
-pub mod Counts
-pub mod Counting
-pub mod Putting
 pub mod Writing

@@ -1,5 +1,11 @@
 //! The spellings of a scanner's rules: for each rule the least text that it wins, shown in a least sentence.
 //!
+//! The parts, from the bottom up; none stands on one behind it:
+//!
+//! - `texts`: texts with a spelling in them.
+//! - `telling`: what is told of each rule of a scanner.
+//! - `writing`: the text of spellings, written to an output, and the laws.
+//!
 //! # What it is for
 //!
 //! A suite has one lexeme for each token, so a parser whose scanner reads one spelling of a token and not another passes it. Here
@@ -7,8 +13,8 @@
 //!
 //! # What a contract sees
 //!
-//! `specs/Spelling.antt` says which text that is: by the verdicts of rule goals (`specs/Chosen.antt`), texts with a spelling in them
-//! (`specs/Texts.antt`), what is told of each rule (`specs/Told.antt`), and its lines (`specs/Lines.antt`).
+//! `specs/Telling/Spelling` says which text that is: by the verdicts of rule goals (`specs/Telling/Chosen`), texts with a spelling
+//! in them (`specs/Texts/Texts`), what is told of each rule (`specs/Telling/Told`), and its lines (`specs/Telling/Lines`).
 //!
 //! # What is proved
 //!
@@ -19,17 +25,8 @@
 //! Nothing.
 #![tactic(auto)]
 
-mod choosing;
-mod counting;
-mod judged;
-mod laws;
-mod matching;
-mod pieces;
-mod putting;
 mod telling;
-mod told;
-mod way;
+mod texts;
 mod writing;
 
-pub use laws::{one_spelling, some_spelling};
-pub use writing::write_spell;
+pub use writing::{one_spelling, some_spelling, write_spell};

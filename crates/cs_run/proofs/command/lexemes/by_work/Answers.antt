@@ -10,7 +10,7 @@ use Rattle.cs_words.specs.declared.command.PairCommand.{PairCommand}
 use Rattle.cs_words.specs.declared.command.PairCommand.TheVariants as of_pair
 use Rattle.cs_run.specs.Ending.Files.{choice_by, texts_by}
 use Rattle.cs_scanner.specs.Scan.Compared.{scanning}
-use Rattle.cs_spell.specs.Spelling.{IsSpelling}
+use Rattle.cs_spell.specs.Telling.Spelling.{IsSpelling}
 use Rattle.cs_wrong.specs.Writing.Text.{IsWrongText}
 use Rattle.cs_run.specs.Command.Carrying.{WritesOfGrammar}
 use Rattle.cs_run.proofs.OnCommand.Performing.{listed_so}

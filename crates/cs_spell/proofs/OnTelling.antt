@@ -1,0 +1,5 @@
+pub mod Judging
+pub mod Choosing
+pub mod Showing
+pub mod Rendering
+pub mod Naming

@@ -1,6 +1,0 @@
-use Rattle.std.proofs.Common.{ℕ, ◌<◌}
-use Rattle.cs_spell.specs.Choosing.{IsLargeAt}
-use Rattle.cs_spell.proofs.choosing.has_large.Given as goal
-
-abbrev pub invariant-loop-place : goal.invariant-loop-place
-invariant-loop-place l = (place : ℕ) → place < l.place → IsLargeAt l.grammar l.judged l.wanted place → ⊥

@@ -1,6 +1,0 @@
-use Rattle.std.proofs.Common.{take}
-use Rattle.cs_spell.specs.Pieces.{AreLexemesOf, values}
-use Rattle.cs_spell.proofs.pieces.gather.Given as goal
-
-abbrev pub invariant-loop-i : goal.invariant-loop-i
-invariant-loop-i l = AreLexemesOf l.lexemes (take l.i l.tokens) (values l.pieces.items)
