@@ -16,7 +16,7 @@ use std::marker::Model;
 
 /// The verdict of a rule goal, and the tokens of its derivation, where it has one.
 #[derive(Debug, Drop)]
-pub struct Judged {
+pub(crate) struct Judged {
     verdict: Verdict,
     tokens: Vec<u16>,
 }

@@ -23,7 +23,7 @@ use std::alloc::{AllocError, Global};
 
 /// What spellings are made with.
 #[derive(Clone, Copy)]
-pub struct Tools<'a> {
+pub(crate) struct Tools<'a> {
     pub(crate) file: &'a YaccFile,
     pub(crate) work: &'a RenderWork<'a>,
     pub(crate) judged: &'a [Judged],

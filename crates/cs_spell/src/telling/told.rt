@@ -6,7 +6,7 @@ use cs_texts::Rendered;
 
 /// A spelling that is shown.
 #[derive(Debug, Drop)]
-pub struct Shown<'j> {
+pub(crate) struct Shown<'j> {
     pub(crate) way: Way,
     pub(crate) rule: u16,
     pub(crate) size: u32,
@@ -17,7 +17,7 @@ pub struct Shown<'j> {
 
 /// What is told of a scanner rule.
 #[derive(Debug, Drop)]
-pub enum Told<'j> {
+pub(crate) enum Told<'j> {
     Shadowed,
     Foreign,
     Literal,

@@ -12,7 +12,7 @@ use std::alloc::{AllocError, Global};
 
 /// The lexemes of tokens, or the first token that has none.
 #[derive(Debug, Drop)]
-pub enum Gathered<'l> {
+pub(crate) enum Gathered<'l> {
     All(Vec<&'l [u8]>),
     Without(u16),
 }

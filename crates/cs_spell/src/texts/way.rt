@@ -2,7 +2,7 @@
 
 /// In place of the lexeme of a token at a place of the list, from 0; or around each lexeme.
 #[derive(Clone, Copy, Debug, PartialEq, Eq)]
-pub enum Way {
+pub(crate) enum Way {
     Gives { token: u16, place: usize },
     Skips,
 }

@@ -9,7 +9,7 @@ use crate::telling::Told;
 
 /// How many rules there are, and how many of each kind.
 #[derive(Clone, Copy, Debug, PartialEq, Eq)]
-pub struct Counts {
+pub(crate) struct Counts {
     pub(crate) rules: u64,
     pub(crate) shown: u64,
     pub(crate) shadowed: u64,
