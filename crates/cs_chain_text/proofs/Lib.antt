@@ -1,9 +1,3 @@
-pub mod OneText
-pub mod SomeText
-pub mod Telling
-pub mod Counting
-pub mod Batches
-pub mod Ending
-pub mod OnAround
+pub mod OnEntries
 pub mod OnRows
-pub mod OnParts
+pub mod OnWriting

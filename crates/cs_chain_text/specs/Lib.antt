@@ -1,5 +1,3 @@
-pub mod Text
-pub mod Around
-pub mod Parts
+pub mod Entries
 pub mod Rows
 pub mod Progress

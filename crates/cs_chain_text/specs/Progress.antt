@@ -23,17 +23,17 @@ use Rattle.cs_chain.specs.declared.chains.chain.Chain.{Chain}
 use Rattle.cs_chain.specs.declared.judging.verdict.ChainVerdict.{ChainVerdict}
 use Rattle.cs_chain.specs.declared.judging.verdict.ChainVerdict.TheVariants.{Feasible, Infeasible, Large}
 use Rattle.cs_chain.specs.Chains.Chains.{chains}
-use Rattle.cs_chain_text.specs.declared.entry.TellWork.{TellWork}
-use Rattle.cs_chain_text.specs.declared.rows.Row.{Row}
-use Rattle.cs_chain_text.specs.declared.tally.Tally.{Tally}
-use Rattle.cs_chain_text.specs.declared.writing.Chained.{Chained}
+use Rattle.cs_chain_text.specs.declared.entries.entry.TellWork.{TellWork}
+use Rattle.cs_chain_text.specs.declared.rows.rows.Row.{Row}
+use Rattle.cs_chain_text.specs.declared.entries.tally.Tally.{Tally}
+use Rattle.cs_chain_text.specs.declared.writing.writing.Chained.{Chained}
 use Rattle.cs_io.specs.Lines.{IsCutShort, IsWritten}
 use Rattle.cs_io.specs.declared.halt.Halt.{Halt}
 use Rattle.cs_io.specs.declared.halt.Halt.TheVariants.{Failed, Memory}
 use Rattle.cs_io.specs.declared.sink.Sink as Sink
-use Rattle.cs_chain_text.specs.declared.frames.FrameLines.{FrameLines}
-use Rattle.cs_chain_text.specs.Rows.{AreFrameLines, Told, row_entries, told_by}
-use Rattle.cs_chain_text.specs.Text.{ChainEntry, IsChainsText, IsEntryOf, as_goal, entry_lines, many_with}
+use Rattle.cs_chain_text.specs.declared.rows.frames.FrameLines.{FrameLines}
+use Rattle.cs_chain_text.specs.Rows.Rows.{AreFrameLines, Told, row_entries, told_by}
+use Rattle.cs_chain_text.specs.Entries.Text.{ChainEntry, IsChainsText, IsEntryOf, as_goal, entry_lines, many_with}
 
 -- ---- what is told of a chain
 

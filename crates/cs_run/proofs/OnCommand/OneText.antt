@@ -8,7 +8,7 @@ use Rattle.cs_lex.specs.Reading.File as lex
 use Rattle.cs_lex.specs.Reading.Reading.{IsLexFile}
 use Rattle.cs_lex.proofs.OnReading.OneFile as lex_files
 use Rattle.cs_manifest.specs.declared.manifest.counts.Counts.{Counts}
-use Rattle.cs_chain_text.specs.Text.{IsChainsText}
+use Rattle.cs_chain_text.specs.Entries.Text.{IsChainsText}
 use Rattle.cs_check_text.specs.Text.{IsCheckText}
 use Rattle.cs_choices.specs.declared.weigh.Weigh.{Weigh}
 use Rattle.cs_choices.specs.declared.weigh.Weigh.TheVariants.{Nodes}

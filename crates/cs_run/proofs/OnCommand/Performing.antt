@@ -33,7 +33,7 @@ use Rattle.cs_run.specs.declared.ending.ending.Ending.TheVariants.{BadWord, Deni
 use Rattle.cs_run.specs.Ending.Ending.{Ends, GrewAsAsked, Performs}
 use Rattle.cs_run.specs.Ending.Files.{Accepted, HasFewChains, IsBeyond, IsWithin, RefusesFor, scanning_of}
 use Rattle.cs_chain.specs.Chains.Chains.{chains}
-use Rattle.cs_chain_text.specs.Text.{IsChainsText}
+use Rattle.cs_chain_text.specs.Entries.Text.{IsChainsText}
 use Rattle.cs_choices.specs.declared.weigh.Weigh.TheVariants.{Nodes}
 use Rattle.cs_grammar.specs.Grammar.{PlainGrammar}
 use Rattle.cs_scanner.specs.Scan.Scan.{Scans}

@@ -2,7 +2,7 @@
 use Rattle.std.specs.Prelude.{◌≡◌, ◌<◌, ◌≤◌, ℕ, List, Option, None, length}
 use Rattle.std.specs.Borrow.{Bor}
 use Rattle.cs_chain_text.specs.Progress.{IsText}
-use Rattle.cs_chain_text.specs.Text.{IsChainsText}
+use Rattle.cs_chain_text.specs.Entries.Text.{IsChainsText}
 use Rattle.cs_choices.specs.declared.weigh.Weigh.{Weigh}
 use Rattle.cs_choices.specs.declared.weigh.Weigh.TheVariants.{Nodes}
 use Rattle.cs_chain.specs.Chains.Chains.{chains}

@@ -10,7 +10,7 @@ use Rattle.cs_words.specs.declared.command.PairCommand.{PairCommand}
 use Rattle.cs_words.specs.declared.command.PairCommand.TheVariants as of_pair
 use Rattle.cs_words.specs.declared.options.Options.{Options}
 use Rattle.cs_words.specs.Requests.{Number, PlainArguments, PlainRequest, files_of}
-use Rattle.cs_chain_text.specs.Text.{IsChainsText}
+use Rattle.cs_chain_text.specs.Entries.Text.{IsChainsText}
 use Rattle.cs_check_text.specs.Text.{IsCheckText, IsDenial}
 use Rattle.cs_choices.specs.declared.weigh.Weigh.TheVariants.{Nodes}
 use Rattle.cs_deep.specs.Membership.{IsMemberText}

@@ -1,0 +1,4 @@
+pub mod OneText
+pub mod SomeText
+pub mod Batches
+pub mod Ending
