@@ -1,13 +1,2 @@
-pub mod Classing
-pub mod Zips
-pub mod OneDeep
-pub mod SomeDeep
-pub mod Ahead
-pub mod Counting
-pub mod Edited
-pub mod Basing
-pub mod Telling
-pub mod Keeping
-pub mod Taking
-pub mod Batch
-pub mod Judged
+pub mod OnEdits
+pub mod OnWriting

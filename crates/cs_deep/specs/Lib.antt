@@ -1,9 +1,3 @@
-pub mod Bases
-pub mod Candidates
-pub mod Classes
-pub mod Deep
-pub mod Judging
-pub mod Lines
 pub mod Membership
-pub mod Progress
-pub mod Tally
+pub mod Edits
+pub mod Writing

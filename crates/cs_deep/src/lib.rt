@@ -1,6 +1,12 @@
 //! What stands beside a suite: whether a text is in the language, and edits that hold no poisoned pair and are outside it all the
 //! same.
 //!
+//! The parts, from the bottom up; none stands on one behind it:
+//!
+//! - `membership`: the text of `member`.
+//! - `edits`: the bases of a suite, their edits one after another, and the classes that edits have.
+//! - `writing`: the text of `deep`, written as it is made, and the laws.
+//!
 //! # What it is for
 //!
 //! The layer above hands in what it has read and an output. [`write_member`] writes the text of `member`: whether a list of
@@ -9,8 +15,8 @@
 //!
 //! # What a contract sees
 //!
-//! Of an output, what it took, its faults and its room. Which text is asked for is said by `specs/Membership.antt` and
-//! `specs/Deep.antt`, and which class an edit has by `specs/Classes.antt`. The other files of `specs/` have working words of
+//! Of an output, what it took, its faults and its room. Which text is asked for is said by `specs/Membership` and
+//! `specs/Writing/Deep`, and which class an edit has by `specs/Edits/Classes`. The other files of `specs/` have working words of
 //! proofs.
 //!
 //! # What is proved
@@ -28,17 +34,12 @@
 //! workers share a batch.
 #![tactic(auto)]
 
-mod bases;
-mod candidates;
-mod class;
-mod judging;
-mod laws;
-mod lines;
+mod edits;
 mod membership;
-mod tally;
 mod writing;
 
-pub use class::EditClass;
-pub use laws::{classes_add_up, one_class, one_deep, some_class, some_deep, some_membership};
+pub use edits::EditClass;
 pub use membership::write_member;
-pub use writing::{Deep, write_deep};
+pub use writing::{
+    Deep, classes_add_up, one_class, one_deep, some_class, some_deep, some_membership, write_deep,
+};

@@ -15,7 +15,7 @@ use Rattle.cs_choices.specs.declared.weigh.Weigh.TheVariants.{Nodes}
 use Rattle.cs_choices.specs.declared.slips.Slips.{Slips}
 use Rattle.cs_manifest.specs.Manifest.Manifest.{Texts}
 use Rattle.cs_spell.specs.Telling.Spelling.{IsSpelling}
-use Rattle.cs_deep.specs.Deep.{IsDeepText}
+use Rattle.cs_deep.specs.Writing.Deep.{IsDeepText}
 use Rattle.cs_lexical.specs.Lines.{IsLexical}
 use Rattle.cs_wrong.specs.Writing.Text.{IsWrongText}
 use Rattle.cs_scanner.specs.Scan.Scan.{Scanning}

@@ -7,7 +7,7 @@ use Rattle.cs_choices.specs.declared.weigh.Weigh.{Weigh}
 use Rattle.cs_choices.specs.declared.weigh.Weigh.TheVariants.{Nodes}
 use Rattle.cs_chain.specs.Chains.Chains.{chains}
 use Rattle.cs_choices.specs.declared.format.Format.TheVariants.{One}
-use Rattle.cs_deep.specs.Deep.{IsDeepText}
+use Rattle.cs_deep.specs.Writing.Deep.{IsDeepText}
 use Rattle.cs_grammar.specs.Weights.{Measure}
 use Rattle.cs_run.specs.Writer.Suite.{choice_with, measure_by}
 use Rattle.cs_run.specs.declared.command.lexemes.Asked.{Asked}

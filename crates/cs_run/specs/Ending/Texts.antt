@@ -15,7 +15,7 @@ use Rattle.cs_check_text.specs.Text.{IsCheckText, IsDenial}
 use Rattle.cs_choices.specs.declared.weigh.Weigh.TheVariants.{Nodes}
 use Rattle.cs_deep.specs.Membership.{IsMemberText}
 use Rattle.cs_spell.specs.Telling.Spelling.{IsSpelling}
-use Rattle.cs_deep.specs.Deep.{IsDeepText}
+use Rattle.cs_deep.specs.Writing.Deep.{IsDeepText}
 use Rattle.cs_lexical.specs.Lines.{IsLexical}
 use Rattle.cs_wrong.specs.Writing.Text.{IsWrongText}
 use Rattle.cs_manifest.specs.Manifest.Manifest.{IsManifest, rules_form}

@@ -1,7 +1,7 @@
 -- What the means choose is what the options choose, in the first format.
 use Rattle.std.proofs.Common.{◌≡◌, subst}
 use Rattle.std.specs.Prelude.{OnErr, OnOk}
-use Rattle.cs_deep.specs.Deep.{IsDeepText}
+use Rattle.cs_deep.specs.Writing.Deep.{IsDeepText}
 use Rattle.cs_io.specs.Asked.{GrewByOne, GrewByPart, HasRoomForAll}
 use Rattle.cs_manifest.specs.Manifest.Manifest.{Choice}
 use Rattle.cs_run.proofs.OnWriter.Formats.{first_choice}

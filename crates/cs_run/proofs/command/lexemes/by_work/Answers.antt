@@ -3,7 +3,7 @@ use Rattle.std.proofs.Common.{sym, subst, refl, List, ℕ, Some}
 use Rattle.cs_io.specs.Uses.{used}
 use Rattle.cs_chain_text.specs.Entries.Text.{IsChainsText}
 use Rattle.cs_choices.specs.declared.format.Format.TheVariants.{One}
-use Rattle.cs_deep.specs.Deep.{IsDeepText}
+use Rattle.cs_deep.specs.Writing.Deep.{IsDeepText}
 use Rattle.cs_run.specs.Command.Scanned.{WritesByScanner, WritesChains}
 use Rattle.cs_words.specs.declared.command.Command.TheVariants.{OfPair}
 use Rattle.cs_words.specs.declared.command.PairCommand.{PairCommand}

@@ -1,0 +1,10 @@
+pub mod Classing
+pub mod Zips
+pub mod OneDeep
+pub mod SomeDeep
+pub mod Judged
+pub mod Counting
+pub mod Telling
+pub mod Edited
+pub mod Basing
+pub mod Batch

@@ -1,6 +1,0 @@
--- One edit more is one more in the count of its class alone.
-use Rattle.cs_deep.proofs.Classing.{add_up}
-use Rattle.cs_deep.proofs.laws.classes_add_up.Goals as goal
-
-pub returns : goal.returns
-returns c = add_up

@@ -1,7 +1,0 @@
--- A list is poisoned, or it is long, or it is a sentence, or it is outside.
-use Rattle.cs_mutate.specs.Edit.{edited}
-use Rattle.cs_deep.proofs.Classing.{some_class_of}
-use Rattle.cs_deep.proofs.laws.some_class.Goals as goal
-
-pub returns : goal.returns
-returns c = λ g base edit. some_class_of g (edited base edit)
