@@ -4,3 +4,4 @@ pub mod Adding
 pub mod Fronts
 pub mod Tables
 pub mod Expecting
+pub mod Whole

@@ -5,7 +5,8 @@
 //! nonterminals the rules of each may begin. Sets of numbers are kept as bits, or as those words that aren't 0.
 //!
 //! All files of `specs/Tables/` have working words of proofs: `Item` (items, and what stands behind their places), `Sets`, `Adding`
-//! (lists by number), `Fronts`, `Tables` (what the tables say of the grammar), `Expecting` (which nonterminals are expected).
+//! (lists by number), `Fronts`, `Tables` and `Whole` (what the tables say of the grammar), `Expecting` (which nonterminals are
+//! expected).
 
 mod adding;
 mod descents;

@@ -18,7 +18,8 @@ use Rattle.cs_member.specs.Tables.Tables.{IsQuestion}
 use Rattle.cs_member.specs.Tables.Expecting.{AreCorners}
 use Rattle.cs_member.specs.Tables.Sets.{Has}
 use Rattle.cs_member.specs.Chart.Chart.{StandsAt, OfBucket, OfBegun, OfScan, IsSpan}
-use Rattle.cs_member.specs.Chart.Made.{IsChart, sets_of, AreWhole}
+use Rattle.cs_member.specs.Chart.Made.{IsChart, sets_of}
+use Rattle.cs_member.specs.Tables.Whole.{AreWhole}
 use Rattle.cs_member.proofs.OnTables.Places.{there_at, at_take}
 use Rattle.cs_member.proofs.OnChart.Putting.{one_awaited, awaited_within}
 

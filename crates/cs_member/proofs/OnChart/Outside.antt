@@ -11,7 +11,8 @@ use Rattle.cs_member.specs.declared.chart.now.Span.{Span}
 use Rattle.cs_member.specs.Tables.Item.{IsEmpty}
 use Rattle.cs_member.specs.Chart.Now.{SpansIn}
 use Rattle.cs_member.specs.Chart.Chart.{IsSpan}
-use Rattle.cs_member.specs.Chart.Made.{IsTables, IsChart, sets_of}
+use Rattle.cs_member.specs.Chart.Made.{IsChart, sets_of}
+use Rattle.cs_member.specs.Tables.Whole.{IsTables}
 use Rattle.cs_member.proofs.OnChart.Completeness.{found}
 use Rattle.cs_member.proofs.OnChart.Closing.{closed_chart, spans_within}
 

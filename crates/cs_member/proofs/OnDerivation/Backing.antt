@@ -27,7 +27,8 @@ use Rattle.cs_member.specs.Tables.Sets.{InWords}
 use Rattle.cs_member.specs.Tables.Fronts.{IsEntry}
 use Rattle.cs_member.specs.Tables.Tables.{AreFronts}
 use Rattle.cs_member.specs.Chart.Chart.{OfRows, OfScan, OfSpan, OfBucket, IsSpan, IsPosition, StandsAt}
-use Rattle.cs_member.specs.Chart.Made.{IsChart, IsTables}
+use Rattle.cs_member.specs.Chart.Made.{IsChart}
+use Rattle.cs_member.specs.Tables.Whole.{IsTables}
 use Rattle.cs_member.specs.Derivation.Back.{LeadsTo, NoneLeads, IsBehind, IsOfFronts, OfSymbol, IsBefore, StandsBefore, IsAt, HasChild, IsFound, OfChild, IsChild}
 use Rattle.cs_member.proofs.OnTables.Places.{at_from_take}
 use Rattle.cs_member.proofs.OnTables.Entering.{same_item}

@@ -26,7 +26,8 @@ use Rattle.cs_member.specs.Tables.Fronts.{IsEntry}
 use Rattle.cs_member.specs.Chart.Now.{IsPast, SpansIn}
 use Rattle.cs_member.specs.Tables.Tables.{AreTrue, HasEmpty}
 use Rattle.cs_member.specs.Chart.Chart.{OfScan, OfSpan, OfBucket, StandsAt}
-use Rattle.cs_member.specs.Chart.Made.{IsChart, IsTables}
+use Rattle.cs_member.specs.Chart.Made.{IsChart}
+use Rattle.cs_member.specs.Tables.Whole.{IsTables}
 use Rattle.cs_member.specs.Derivation.Writing.{Between, AreTreesTo, IsTreeTo}
 use Rattle.cs_member.proofs.OnTables.Places.{drop_step, at_from_take}
 use Rattle.cs_member.proofs.OnTables.Emptying.{empty_forest}

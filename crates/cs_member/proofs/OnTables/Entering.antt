@@ -20,7 +20,7 @@ use Rattle.cs_member.specs.Tables.Tables.{AreEmpties, AreFronts, HasEmpty}
 use Rattle.std.proofs.lemmas.List.Elements.{Contains-get_or}
 use Rattle.cs_member.specs.declared.tables.tables.Tables.{Tables}
 use Rattle.cs_member.specs.Tables.Expecting.{AreCorners}
-use Rattle.cs_member.specs.Chart.Made.{AreWhole}
+use Rattle.cs_member.specs.Tables.Whole.{AreWhole}
 use Rattle.cs_member.proofs.OnTables.Lists.{added_size, added_here, added_before, added_cases}
 use Rattle.cs_member.proofs.OnTables.Places.{there_at}
 use Rattle.cs_member.proofs.OnChart.Putting.{one_awaited}

@@ -1,9 +1,6 @@
 -- Charts that are made of a grammar's tables and a list of tokens.
-use Rattle.std.specs.Prelude.{◌≡◌, ◌<◌, ◌+◌, ◌⊎◌, ℕ, List, None, Some, Contains, length, take, slice_get}
-use Rattle.std.specs.Global.{Vec}
-use Rattle.cs_grammar.specs.declared.symbol.Symbol.TheVariants.{Token, Nonterminal}
-use Rattle.cs_member.specs.declared.tables.fronts.Front.{Front}
-use Rattle.cs_member.specs.Tables.Item.{Awaits, IsDone, IsFront, over}
+use Rattle.std.specs.Prelude.{◌≡◌, ◌<◌, ◌+◌, ◌⊎◌, ℕ, List, None, Some, length, take, slice_get}
+use Rattle.cs_member.specs.Tables.Item.{IsDone}
 use Rattle.cs_member.specs.declared.chart.now.Span.{Span}
 use Rattle.cs_member.specs.Chart.Closed.{Sets}
 use Rattle.cs_grammar.specs.Grammar.{PlainGrammar}
@@ -14,9 +11,8 @@ use Rattle.cs_member.specs.declared.tables.tables.Tables.{Tables}
 use Rattle.cs_member.specs.Chart.Now.{IsNow, ArePassed, IsKept, IsPast, StandsIn, SpansIn}
 use Rattle.cs_member.specs.Chart.Chart.{AreRows, AreBefore, OfScan, OfSpan, IsFollowed, ExpectedAt, StandsAt}
 use Rattle.cs_member.specs.Chart.Buckets.{AreBuckets, rows_in}
-use Rattle.cs_member.specs.Tables.Expecting.{AreAwaited, AreCorners, AreDescents, IsDescended}
+use Rattle.cs_member.specs.Tables.Expecting.{AreAwaited, IsDescended}
 use Rattle.cs_member.specs.Tables.Sets.{Has}
-use Rattle.cs_member.specs.Tables.Tables.{IsQuestion}
 
 -- what follows from the token before the position is kept, where there is one
 abbrev pub IsScanned : PlainGrammar → Tables → List ℕ → List Position → Now → Type 0
@@ -61,18 +57,3 @@ sets_of chart = record {
   Expected = λ i a. (p : Position) × (slice_get chart i ≡ Some p) × ExpectedAt p a;
   Spans = λ i a j. (p : Position) × (slice_get chart i ≡ Some p) × SpansIn p.spans.items a j;
 }
-
--- each front of a rule is in the tables
-pub record AreWhole (g : PlainGrammar) (tables : Tables) : Type 0 where
-  pub tokens : (a t : ℕ) (x : Item) (list : Vec Front) → IsFront g a x → Awaits g x (Token t) → slice_get tables.tokens.items t ≡ Some list
-      → (f : Front) × Contains list.items f × (f.left ≡ a) × (f.item ≡ over x)
-  pub nonterminals : (a b : ℕ) (x : Item) (list : Vec Front) → IsFront g a x → Awaits g x (Nonterminal b) → slice_get tables.nonterminals.items b ≡ Some list
-      → (f : Front) × Contains list.items f × (f.left ≡ a) × (f.item ≡ over x)
-  pub corners : (a b : ℕ) (x : Item) (list : Vec ℕ) → IsFront g a x → Awaits g x (Nonterminal b) → slice_get tables.corners.items a ≡ Some list → Contains list.items b
-
--- the tables of this grammar
-pub record IsTables (g : PlainGrammar) (tables : Tables) : Type 0 where
-  pub question : IsQuestion g tables
-  pub corners : AreCorners (g.nonterminals + 1) tables.corners.items
-  pub descents : AreDescents (g.nonterminals + 1) tables.corners.items tables.descents.items
-  pub whole : AreWhole g tables

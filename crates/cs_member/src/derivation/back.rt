@@ -8,7 +8,7 @@ ghost use Rattle.cs_member.specs.declared.tables.item.Item.{Item};
 ghost use Rattle.cs_member.specs.declared.derivation.back.Sought.TheVariants.{Exactly};
 ghost use Rattle.cs_member.specs.declared.chart.chart.Position.{Position};
 ghost use Rattle.cs_member.specs.Chart.Chart.{IsRow, IsPosition};
-ghost use Rattle.cs_member.specs.Chart.Made.{IsTables};
+ghost use Rattle.cs_member.specs.Tables.Whole.{IsTables};
 ghost use Rattle.cs_member.specs.Derivation.Back.{IsChild, IsSought, StandsBefore};
 ghost use Rattle.cs_member.specs.Asked.{IsChartOf, FindsPlace, FindsLead, FindsRow, AreOver, FindsFront, FindsAt, FindsByToken, FindsBySpan, FindsBy, FindsWay};
 

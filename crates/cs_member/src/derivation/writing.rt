@@ -6,7 +6,7 @@ ghost use Rattle.cs_grammar.specs.Grammar.{IsNumberOf};
 ghost use Rattle.cs_grammar.specs.declared.symbol.Symbol.TheVariants.{Nonterminal};
 ghost use Rattle.cs_member.specs.declared.derivation.writing.Task.TheVariants.{Empty, Trees, Tree as TreeOf};
 ghost use Rattle.cs_member.specs.Tables.Item.{IsItem};
-ghost use Rattle.cs_member.specs.Chart.Made.{IsTables};
+ghost use Rattle.cs_member.specs.Tables.Whole.{IsTables};
 ghost use Rattle.cs_member.specs.Tables.Tables.{HasEmpty};
 ghost use Rattle.cs_member.specs.Derivation.Back.{IsAt, IsChild};
 ghost use Rattle.cs_member.specs.Derivation.Writing.{IsTask, LeavesFront, empty_tasks};

@@ -5,7 +5,7 @@ ghost use Rattle.cs_grammar.specs.Grammar.{IsNumberOf};
 ghost use Rattle.cs_grammar.specs.Sentence.{IsSentence};
 ghost use Rattle.cs_member.specs.declared.TheConstants.{MOST_LENGTH};
 ghost use Rattle.cs_member.specs.declared.chart.now.Span.{Span};
-ghost use Rattle.cs_member.specs.Chart.Made.{IsTables};
+ghost use Rattle.cs_member.specs.Tables.Whole.{IsTables};
 ghost use Rattle.cs_member.specs.Membership.Membership.{IsMembership, TellsMembership};
 ghost use Rattle.cs_member.specs.Asked.{IsChartOf, AsksSentence, FindsSpan, IsWholeOf};
 
@@ -78,7 +78,7 @@ impl<'g> Model for Recognizer<'g> {
 
     ghost view = { λ r. r.grammar.now };
 
-    ghost use Rattle.cs_member.specs.Chart.Made.{IsTables};
+    ghost use Rattle.cs_member.specs.Tables.Whole.{IsTables};
 
     ghost invariant = { λ r. IsTables r.grammar.now r.tables };
 }

@@ -2,7 +2,7 @@
 
 ghost use Rattle.std.specs.Prelude.{IfOk};
 ghost use Rattle.cs_member.specs.Tables.Tables.{HasPlaces};
-ghost use Rattle.cs_member.specs.Chart.Made.{IsTables};
+ghost use Rattle.cs_member.specs.Tables.Whole.{IsTables};
 
 use crate::tables::descents::descents_of;
 use crate::tables::empties::empties_of;
