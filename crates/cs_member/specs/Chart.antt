@@ -3,3 +3,4 @@ pub mod Buckets
 pub mod Chart
 pub mod Closed
 pub mod Made
+pub mod Asked

@@ -2,4 +2,3 @@ pub mod Tables
 pub mod Chart
 pub mod Derivation
 pub mod Membership
-pub mod Asked

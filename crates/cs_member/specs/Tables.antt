@@ -5,3 +5,4 @@ pub mod Fronts
 pub mod Tables
 pub mod Expecting
 pub mod Whole
+pub mod Asked

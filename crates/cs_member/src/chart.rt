@@ -5,7 +5,8 @@
 //! to here; which nonterminals are expected; and the spans that end here. It is made as a `Now`.
 //!
 //! All files of `specs/Chart/` have working words of proofs: `Now` (the position that is being made), `Buckets` (rows by number),
-//! `Chart` and `Closed` (positions as sets, and what follows from what stands there), `Made` (what charts are made of).
+//! `Chart` and `Closed` (positions as sets, and what follows from what stands there), `Made` (what charts are made of), `Asked`
+//! (what contracts say of these).
 
 mod buckets;
 mod chart;

@@ -3,7 +3,8 @@
 //! The layer above begins with one [`Task`], the tree of the start symbol over the whole list, and gets the rule numbers of such a
 //! tree by `write`, which takes tasks from the list's end.
 //!
-//! Both files of `specs/Derivation/` have working words of proofs: `Back` (how an item was found), `Writing` (what tasks write).
+//! All files of `specs/Derivation/` have working words of proofs: `Back` (how an item was found), `Writing` (what tasks write), `Asked`
+//! (what contracts say of these).
 
 mod back;
 mod writing;

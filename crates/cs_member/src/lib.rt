@@ -20,7 +20,7 @@
 //! # What a contract sees
 //!
 //! A grammar, a list and an answer. Meaning: `specs/Membership/Membership`. The other files of `specs/` have working
-//! words of proofs, `Asked` those of all parts.
+//! words of proofs.
 //!
 //! # What is proved
 //!

@@ -6,7 +6,7 @@
 //!
 //! All files of `specs/Tables/` have working words of proofs: `Item` (items, and what stands behind their places), `Sets`, `Adding`
 //! (lists by number), `Fronts`, `Tables` and `Whole` (what the tables say of the grammar), `Expecting` (which nonterminals are
-//! expected).
+//! expected), `Asked` (what contracts say of these).
 
 mod adding;
 mod descents;

@@ -10,7 +10,7 @@ use Rattle.std.proofs.lemmas.Nat.Bits.{bit_at-lt, bit_at-zero, bit_at_and, bit_a
 use Rattle.cs_member.specs.declared.tables.word.Word.{Word}
 use Rattle.cs_member.specs.declared.chart.now.Span.{Span}
 use Rattle.cs_member.specs.Tables.Sets.{InWord, InWords}
-use Rattle.cs_member.specs.Asked.{HasBitsAlso}
+use Rattle.cs_member.specs.Tables.Asked.{HasBitsAlso}
 use Rattle.cs_member.specs.Chart.Now.{SpansIn, HasEnd, AreEnds, Ends}
 use Rattle.cs_member.proofs.OnTables.Bits.{in_take}
 use Rattle.cs_member.proofs.OnChart.Rows.{Are, are_more, all_more, spans_left}

@@ -7,7 +7,8 @@ use Rattle.std.proofs.lemmas.Bool.{cases_eq}
 use Rattle.std.proofs.lemmas.Option.{same_Some, slice_get_within}
 use Rattle.std.proofs.lemmas.List.{take_more}
 use Rattle.std.proofs.lemmas.List.Elements.{All-nil, All-push, Contains-push, Contains-append_left}
-use Rattle.cs_member.specs.Tables.Expecting.{IsMarked, AreMarked, Marks, AreAwaited, IsDescended}
+use Rattle.cs_member.specs.Tables.Expecting.{IsMarked, AreMarked, Marks, IsDescended}
+use Rattle.cs_member.specs.Chart.Made.{AreAwaited}
 use Rattle.cs_grammar.specs.declared.symbol.Symbol.TheVariants.{Token, Nonterminal}
 use Rattle.cs_grammar.specs.Grammar.{PlainGrammar}
 use Rattle.cs_member.specs.declared.chart.now.Origins.{Origins}

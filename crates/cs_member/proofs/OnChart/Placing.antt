@@ -7,7 +7,7 @@ use Rattle.std.proofs.lemmas.List.{length-map, length-append, length-replicate, 
 use Rattle.std.proofs.lemmas.Option.{slice_get_within, slice_get-map, get_or_from_slice_get, same_Some}
 use Rattle.cs_member.specs.declared.chart.chart.Row.{Row}
 use Rattle.cs_member.specs.Tables.Adding.{IsAdded}
-use Rattle.cs_member.specs.Asked.{AreEmptyLists}
+use Rattle.cs_member.specs.Tables.Asked.{AreEmptyLists}
 use Rattle.cs_member.specs.Chart.Buckets.{ArePlaces, lists_by}
 use Rattle.cs_member.proofs.OnTables.Places.{at_left, at_end, at_push_cases, at_set, at_set_cases, there_at}
 

@@ -1,6 +1,6 @@
 -- Charts that are made of a grammar's tables and a list of tokens.
 use Rattle.std.specs.Prelude.{◌≡◌, ◌<◌, ◌+◌, ◌⊎◌, ℕ, List, None, Some, length, take, slice_get}
-use Rattle.cs_member.specs.Tables.Item.{IsDone}
+use Rattle.cs_member.specs.Tables.Item.{Awaits, IsDone}
 use Rattle.cs_member.specs.declared.chart.now.Span.{Span}
 use Rattle.cs_member.specs.Chart.Closed.{Sets}
 use Rattle.cs_grammar.specs.Grammar.{PlainGrammar}
@@ -11,8 +11,14 @@ use Rattle.cs_member.specs.declared.tables.tables.Tables.{Tables}
 use Rattle.cs_member.specs.Chart.Now.{IsNow, ArePassed, IsKept, IsPast, StandsIn, SpansIn}
 use Rattle.cs_member.specs.Chart.Chart.{AreRows, AreBefore, OfScan, OfSpan, IsFollowed, ExpectedAt, StandsAt}
 use Rattle.cs_member.specs.Chart.Buckets.{AreBuckets, rows_in}
-use Rattle.cs_member.specs.Tables.Expecting.{AreAwaited, IsDescended}
+use Rattle.cs_member.specs.Tables.Expecting.{IsDescended}
 use Rattle.cs_member.specs.Tables.Sets.{Has}
+use Rattle.cs_member.specs.declared.chart.now.Origins.{Origins}
+use Rattle.cs_grammar.specs.declared.symbol.Symbol.TheVariants.{Nonterminal}
+
+-- what the items await is expected
+abbrev pub AreAwaited : PlainGrammar → List Origins → List ℕ → Type 0
+AreAwaited g origins expected = (k a : ℕ) (o : Origins) → slice_get origins k ≡ Some o → Awaits g o.item (Nonterminal a) → Has expected a
 
 -- what follows from the token before the position is kept, where there is one
 abbrev pub IsScanned : PlainGrammar → Tables → List ℕ → List Position → Now → Type 0

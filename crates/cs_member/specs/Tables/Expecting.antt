@@ -2,11 +2,7 @@
 use Rattle.std.specs.Prelude.{◌≡◌, ◌<◌, ◌++◌, ℕ, List, Bool, Some, true, All, Contains, length, slice_get}
 use Rattle.std.specs.Global.{Vec}
 use Rattle.smallvec.specs.SmallVec.{SmallVec}
-use Rattle.cs_grammar.specs.declared.symbol.Symbol.TheVariants.{Nonterminal}
-use Rattle.cs_grammar.specs.Grammar.{PlainGrammar}
-use Rattle.cs_member.specs.declared.chart.now.Origins.{Origins}
 use Rattle.cs_member.specs.declared.tables.word.Word.{Word}
-use Rattle.cs_member.specs.Tables.Item.{Awaits}
 use Rattle.cs_member.specs.Tables.Sets.{Has, InWords}
 
 abbrev pub IsMarked : List Bool → ℕ → Type 0
@@ -46,7 +42,3 @@ pub record AreDescents (many : ℕ) (corners : List (Vec ℕ)) (descents : List 
 -- what is expected stays so
 abbrev pub Stays : List ℕ → List ℕ → Type 0
 Stays old new = (a : ℕ) → Has old a → Has new a
-
--- what the items await is expected
-abbrev pub AreAwaited : PlainGrammar → List Origins → List ℕ → Type 0
-AreAwaited g origins expected = (k a : ℕ) (o : Origins) → slice_get origins k ≡ Some o → Awaits g o.item (Nonterminal a) → Has expected a

@@ -2,7 +2,7 @@
 
 ghost use Rattle.std.specs.Prelude.{◌≡◌, ◌<◌, ◌+◌, Some, IfOk, OnOk, length, slice_get};
 ghost use Rattle.cs_member.specs.Tables.Adding.{IsAdded};
-ghost use Rattle.cs_member.specs.Asked.{AreEmptyLists};
+ghost use Rattle.cs_member.specs.Tables.Asked.{AreEmptyLists};
 ghost use Rattle.cs_member.specs.Chart.Buckets.{AreBuckets, IsBucket, rows_in};
 
 use crate::chart::chart::Row;

@@ -12,7 +12,7 @@ ghost use Rattle.cs_member.specs.Chart.Buckets.{AreBuckets, rows_in};
 ghost use Rattle.cs_member.specs.Chart.Chart.{IsRow, OfRows, AreBefore, ArePositions, Grows, AreRows, bucket_of};
 ghost use Rattle.cs_member.specs.Tables.Sets.{Has};
 ghost use Rattle.cs_member.specs.Tables.Expecting.{Stays};
-ghost use Rattle.cs_member.specs.Asked.{IsChartOf, HasDescents, ArePutBy, FollowsBegun, AreFrontsOf, ScanPuts, FollowPuts, AreCausedIn, AllFollowed, ExpectsStart, AreAwaitedOf, IsDescendedOf, AreRowsAt, AreAwaitedAt, ArePassedAt, IsScannedAt, IsFromAt, IsMadeAt};
+ghost use Rattle.cs_member.specs.Chart.Asked.{IsChartOf, HasDescents, ArePutBy, FollowsBegun, AreFrontsOf, ScanPuts, FollowPuts, AreCausedIn, AllFollowed, ExpectsStart, AreAwaitedOf, IsDescendedOf, AreRowsAt, AreAwaitedAt, ArePassedAt, IsScannedAt, IsFromAt, IsMadeAt};
 
 use crate::MOST_LENGTH;
 use crate::chart::buckets::Buckets;

@@ -6,7 +6,7 @@ ghost use Rattle.cs_member.specs.Tables.Item.{IsItem, NeverComes};
 ghost use Rattle.cs_member.specs.Tables.Tables.{IsQuestion};
 ghost use Rattle.cs_member.specs.Tables.Sets.{InWord, InWords};
 ghost use Rattle.cs_member.specs.Chart.Now.{IsNow, AreEnds, Ends, Stood, AreShort};
-ghost use Rattle.cs_member.specs.Asked.{HoldsItem, MayAdd, StaysHere, KeepsHere, StoodAt, EndsIn, IsPutBy};
+ghost use Rattle.cs_member.specs.Chart.Asked.{HoldsItem, MayAdd, StaysHere, KeepsHere, StoodAt, EndsIn, IsPutBy};
 
 use crate::tables::{
     Item, Next, Tables, Word, add_all, add_bits, bits_at, clear_bits, next_of, same,

@@ -10,7 +10,8 @@ ghost use Rattle.cs_member.specs.declared.chart.chart.Position.{Position};
 ghost use Rattle.cs_member.specs.Chart.Chart.{IsRow, IsPosition};
 ghost use Rattle.cs_member.specs.Tables.Whole.{IsTables};
 ghost use Rattle.cs_member.specs.Derivation.Back.{IsChild, IsSought, StandsBefore};
-ghost use Rattle.cs_member.specs.Asked.{IsChartOf, FindsPlace, FindsLead, FindsRow, AreOver, FindsFront, FindsAt, FindsByToken, FindsBySpan, FindsBy, FindsWay};
+ghost use Rattle.cs_member.specs.Chart.Asked.{IsChartOf};
+ghost use Rattle.cs_member.specs.Derivation.Asked.{FindsPlace, FindsLead, FindsRow, AreOver, FindsFront, FindsAt, FindsByToken, FindsBySpan, FindsBy, FindsWay};
 
 use crate::chart::{Position, Question, Row};
 use crate::tables::{Front, Item, has, have_empty, over};

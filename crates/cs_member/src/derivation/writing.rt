@@ -10,7 +10,8 @@ ghost use Rattle.cs_member.specs.Tables.Whole.{IsTables};
 ghost use Rattle.cs_member.specs.Tables.Tables.{HasEmpty};
 ghost use Rattle.cs_member.specs.Derivation.Back.{IsAt, IsChild};
 ghost use Rattle.cs_member.specs.Derivation.Writing.{IsTask, LeavesFront, empty_tasks};
-ghost use Rattle.cs_member.specs.Asked.{IsChartOf, IsBackOf, WritesOf, Takes, TakesBack};
+ghost use Rattle.cs_member.specs.Chart.Asked.{IsChartOf};
+ghost use Rattle.cs_member.specs.Derivation.Asked.{IsBackOf, WritesOf, Takes, TakesBack};
 
 use crate::chart::{Position, Question};
 use crate::derivation::back::{Sought, WayBack, find_by, find_way};

@@ -7,7 +7,8 @@ ghost use Rattle.cs_member.specs.declared.TheConstants.{MOST_LENGTH};
 ghost use Rattle.cs_member.specs.declared.chart.now.Span.{Span};
 ghost use Rattle.cs_member.specs.Tables.Whole.{IsTables};
 ghost use Rattle.cs_member.specs.Membership.Membership.{IsMembership, TellsMembership};
-ghost use Rattle.cs_member.specs.Asked.{IsChartOf, AsksSentence, FindsSpan, IsWholeOf};
+ghost use Rattle.cs_member.specs.Chart.Asked.{IsChartOf};
+ghost use Rattle.cs_member.specs.Membership.Asked.{AsksSentence, FindsSpan, IsWholeOf};
 
 use crate::MOST_LENGTH;
 use crate::chart::{Position, Question, Span, chart_of};

@@ -3,7 +3,7 @@
 ghost use Rattle.std.specs.Prelude.{◌≡◌, ◌+◌, ◌<◌, IfOk, OnOk, length};
 ghost use Rattle.std.specs.Global.{Vec};
 ghost use Rattle.cs_member.specs.Tables.Adding.{IsAdded};
-ghost use Rattle.cs_member.specs.Asked.{AreEmptyLists};
+ghost use Rattle.cs_member.specs.Tables.Asked.{AreEmptyLists};
 
 use std::alloc::{AllocError, Global};
 

@@ -3,7 +3,7 @@
 ghost use Rattle.std.specs.Prelude.{◌≡◌, ◌≤◌, ◌<◌, ◌+◌, ◌↔◌, [], ℕ, Some, true, All, IfOk, OnOk, length, slice_get};
 ghost use Rattle.cs_member.specs.Tables.Sets.{InWords};
 ghost use Rattle.cs_member.specs.Tables.Expecting.{AreMarked, AreCorners, AreDescents, IsDescent, IsDescended, IsMarked};
-ghost use Rattle.cs_member.specs.Asked.{HasMarked, MarksIn};
+ghost use Rattle.cs_member.specs.Tables.Asked.{HasMarked, MarksIn};
 
 use crate::tables::word::{Word, add, pack, word_of};
 use smallvec::SmallVec;

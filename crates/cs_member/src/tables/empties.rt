@@ -2,7 +2,7 @@
 
 ghost use Rattle.std.specs.Prelude.{◌≡◌, ◌⊎◌, ◌↔◌, ◌+◌, ℕ, Some, All, IsTrue, IsSome, IfOk, IfSome, IfNone, length, slice_get};
 ghost use Rattle.cs_member.specs.Tables.Tables.{AreEmpties, IsSaturated, IsFurther, HasEmpty, IsWithin};
-ghost use Rattle.cs_member.specs.Asked.{HasRounds};
+ghost use Rattle.cs_member.specs.Tables.Asked.{HasRounds};
 
 use cs_grammar::{Grammar, Symbol, number_of};
 use std::alloc::{AllocError, Global};

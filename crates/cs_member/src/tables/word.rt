@@ -2,7 +2,7 @@
 
 ghost use Rattle.std.specs.Prelude.{◌≡◌, ◌≤◌, ◌<◌, ◌^◌, ◌↔◌, ◌⊎◌, ℕ, IsTrue, All, IfOk, OnOk, length, slice_index};
 ghost use Rattle.cs_member.specs.Tables.Sets.{Has, InWord, InWords};
-ghost use Rattle.cs_member.specs.Asked.{StaysShort, AreSmall, HasAlso, HasBitsAlso};
+ghost use Rattle.cs_member.specs.Tables.Asked.{StaysShort, AreSmall, HasAlso, HasBitsAlso};
 
 use smallvec::SmallVec;
 use std::alloc::{AllocError, Global};

@@ -3,7 +3,7 @@ use Rattle.std.proofs.Common.{[], List, subst, arith}
 use Rattle.std.proofs.lemmas.List.{take_all}
 use Rattle.std.proofs.lemmas.Option.{slice_get_within}
 use Rattle.cs_member.specs.declared.chart.now.Origins.{Origins}
-use Rattle.cs_member.specs.Tables.Expecting.{AreAwaited}
+use Rattle.cs_member.specs.Chart.Made.{AreAwaited}
 use Rattle.cs_member.proofs.OnChart.Bucketing.{bucket_here, bucket_low, here_at, here_item}
 use Rattle.cs_member.proofs.OnChart.Marking.{awaited_more}
 use Rattle.cs_member.proofs.chart.chart.expect_awaited.Goals as goal

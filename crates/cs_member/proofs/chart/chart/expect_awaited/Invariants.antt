@@ -1,5 +1,6 @@
 use Rattle.std.proofs.Common.{take}
-use Rattle.cs_member.specs.Tables.Expecting.{Stays, AreAwaited, IsDescended}
+use Rattle.cs_member.specs.Tables.Expecting.{Stays, IsDescended}
+use Rattle.cs_member.specs.Chart.Made.{AreAwaited}
 use Rattle.cs_member.specs.Tables.Sets.{Has}
 use Rattle.cs_member.proofs.chart.chart.expect_awaited.Given as goal
 

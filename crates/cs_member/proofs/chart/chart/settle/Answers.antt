@@ -1,7 +1,7 @@
 -- What the items found await is expected.
 use Rattle.std.proofs.Common.{List, subst}
 use Rattle.cs_member.specs.declared.chart.now.Origins.{Origins}
-use Rattle.cs_member.specs.Tables.Expecting.{AreAwaited}
+use Rattle.cs_member.specs.Chart.Made.{AreAwaited}
 use Rattle.cs_member.proofs.chart.chart.settle.Goals as goal
 
 pub returns-clause-awaited : goal.returns-clause-awaited

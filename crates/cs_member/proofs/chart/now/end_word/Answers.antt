@@ -2,7 +2,7 @@
 use Rattle.std.proofs.Common.{◌≡◌, ℕ, ◌+◌, ◌*◌, ◌/◌, ◌%◌, ◌<◌, arith, sym, ap, ◌∙◌, subst, get_or, List}
 use Rattle.std.specs.Int.{bit_at}
 use Rattle.std.proofs.lemmas.Nat.Bits.{bit_at-zero}
-use Rattle.cs_member.specs.Asked.{HasBitsAlso}
+use Rattle.cs_member.specs.Tables.Asked.{HasBitsAlso}
 use Rattle.cs_member.specs.Tables.Sets.{InWord}
 use Rattle.cs_member.proofs.OnChart.Rows.{ends_none}
 use Rattle.cs_member.proofs.OnChart.Ending.{fresh, ends_fresh, are_ends}

@@ -3,7 +3,7 @@ use Rattle.std.proofs.Common.{◌≡◌, ◌+◌, ℕ, List, [], ◌∷◌, leng
 use Rattle.std.specs.Global.{Vec}
 use Rattle.std.proofs.lemmas.List.{length-replicate}
 use Rattle.cs_member.specs.declared.chart.chart.Row.{Row}
-use Rattle.cs_member.specs.Asked.{AreEmptyLists}
+use Rattle.cs_member.specs.Tables.Asked.{AreEmptyLists}
 use Rattle.cs_member.specs.Chart.Buckets.{ArePlaces, lists_by}
 use Rattle.cs_member.proofs.OnChart.Placing.{places_none, empty_by, length_by}
 use Rattle.cs_member.proofs.chart.buckets.Buckets.new.Goals as goal
