@@ -19,13 +19,12 @@ GRAMMARS = [
     (
         "%token <n> NUMBER T_IF /* not this */ LBRACE PLUS_ASSIGN\n%token LE \"<=\" LAST 0 \"end of file\" NAMED \"a name\"\n"
         "%token SHL /* << */ WHILE /* `while' */ OTHER T_DO\n%%\ns : NUMBER '+' '-' s | T_IF LBRACE PLUS_ASSIGN LE NAMED\n"
-        "  | error ';' | '\\n' LAST SHL WHILE OTHER T_DO ;\n",
+        "  | error ';' | '\\n' SHL WHILE OTHER T_DO LAST ;\n",
         [
             "[\\n+\\-] return yytext[0]; /* the literals of the grammar */",
             '"{" return LBRACE; /* of its name: mark */',
             '"+=" return PLUS_ASSIGN; /* of its name: mark */',
             '"<=" return LE; /* of its string */',
-            ' /* LAST: its number tells the end of the text, which no pattern matches; fill in: "..." return LAST; */',
             '"<<" return SHL; /* of the comment beside it */',
             '"while" return WHILE; /* of the comment beside it */',
             ' /* OTHER: its name tells no text; fill in: "..." return OTHER; */',
@@ -35,8 +34,8 @@ GRAMMARS = [
             "[A-Za-z_][A-Za-z0-9_]* return NAMED; /* of its string: word */",
             "[\\t\\v-\\r ]+ ;",
         ],
-        "14 tokens: 3 literals, 1 of their strings, 2 of comments, 2 marks of their names, 2 classes of their names, "
-        "2 keywords of their names, 2 to fill in",
+        "13 tokens: 3 literals, 1 of their strings, 2 of comments, 2 marks of their names, 2 classes of their names, "
+        "2 keywords of their names, 1 to fill in",
     ),
     (
         "%token AND LAND BEGIN INT CHAR STRING_LITERAL REAL_CONST ID FUNC_ID NL\n%%\n"

@@ -50,6 +50,12 @@ PLAIN = [
     ),
     ("%union u {int x;}\n%union v { <% } }\n%%\ns : ;", "%union   {int x;}\n                 \n%%\ns : ;"),
     ("%token A\n%%\n#line 7 \"x.y\"\ns, : A, <t>{ }[u] ;\n", "%token A\n%%\n             \ns  : A     { }    ;\n"),
+    # A token with the number 0 is the end of the text, by POSIX yacc too: a sentence ends where its text does.
+    (
+        "%token A 1 LAST 0 \"end\"\n%%\ns : l \"end\" { } | LAST | error LAST A ;\nl : A | l A %prec LAST ;",
+        "%token A 1 LAST 0      \n%%\ns : l       { } |      | error LAST A ;\nl : A | l A %prec LAST ;",
+    ),
+    ("%token END 0x0\n%%\ns : t END ; t : 'a' u ; u : END ;", "%token END 0  \n%%\ns : t     ; t : 'a' u ; u :     ;"),
 ]
 
 # Texts that are plain already.
@@ -94,6 +100,9 @@ NOT_PLAIN = [
     ("%require «3\n%%\na : ;", "a string is missing behind %require"),
     ("%token A«", "the file ends without %%"),
     ("%%\na : «YYEOF ;", "this token is Bison's own"),
+    ("%token END 0\n%%\na : «END 'b' ;", "the number 0 of END is the end of the text, and more may stand behind it here"),
+    ("%token END 0\n%%\na : «b 'c' ; b : 'b' END ;", "the number 0 of END is the end of the text"),
+    ("%token END 0\n%%\na : | «a b ; b : 'b' END ;", "the number 0 of END is the end of the text"),
     ("%token A \"x\" B «\"x\"\n%%\na : A ;", "this string stands for two tokens"),
     ("%union «%%\na : ;", "a block in braces is missing behind %union"),
     ("%%\na : 'b' %prec «; ", "a token is missing behind %prec"),
@@ -477,6 +486,17 @@ def missing_texts(folder):
             yield fault or f"{rules!r}: {told!r}, not {wanted!r}"
 
 
+def ends_of_text(folder):
+    """A token with the number 0 has no text, and the hint says what to do."""
+    written(folder, "g.y", "%token A B LAST 0\n%%\ns : A B LAST | B ;\n")
+    written(folder, "l.l", "%%\na return A;\nb return B;\n[ ] ;\n")
+    wrote = '  no text lexeme LAST\n  text "b"\n'
+    fault, told = explained(folder, ["suite", "g.y", "l.l", "--criteria=rule", "--mutate=none"], None, 0, wrote)
+    hint = "  LAST has the number 0, the end of the text: `tools/from_bison GRAMMAR.y` takes it out of the rules\n"
+    if fault or not told.endswith(hint):
+        yield fault or f"an end of the text: {told!r}"
+
+
 def faults(folder):
     """The line of a manifest that has a fault, with what it lacks; and the end of one that is cut short."""
     written(folder, "g.y", ERROR_RULES)
@@ -518,7 +538,8 @@ def sentences(_):
 
 def main():
     failed = []
-    on_files = (plain_rows, not_plain_rows, calls, reports, places, lex_places, long_lines, others, good_runs, missing_texts, faults)
+    on_files = (plain_rows, not_plain_rows, calls, reports, places, lex_places, long_lines, others, good_runs)
+    on_files += (missing_texts, ends_of_text, faults)
     for rows in (*on_files, sentences):
         with tempfile.TemporaryDirectory() as folder:
             os.chmod(written(folder, "program", MADE_UP), 0o755)

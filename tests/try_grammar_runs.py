@@ -114,6 +114,11 @@ def grammars(folder):
     said = "isn't read as it is (conform: yacc: UnknownDirective at 0)"
     if found[0] != 0 or "tools/from_bison" not in found[2] or said not in found[2]:
         yield f"a grammar of Bison: {found}"
+    for rest, status, said in ((" END ", 0, "a token with the number 0"), (" END 'x' ", 2, "from_bison: ")):
+        ended = text.replace("%%", "%token END 0\n%%", 1).replace("%%\n", f"%%\nwhole : value{rest};\n", 1)
+        found = tried(old, files=(written(folder, "ended.y", ended), SCANNER))
+        if found[0] != status or said not in found[2] or "Traceback" in found[2]:
+            yield f"a grammar with an end of the text: {found}"
     refused = tried(old, files=(written(folder, "refused.y", "%%\nrefused : name"), SCANNER))
     if refused[0] != 2 or "conform: yacc: Undefined at 3" not in refused[2] or refused[1] or "Traceback" in refused[2]:
         yield f"a grammar that is refused: {refused}"

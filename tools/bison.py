@@ -214,6 +214,12 @@ def aliases(all_tokens):
     return found
 
 
+def end_tokens(all_tokens):
+    """The names of the tokens with the number 0, which are the end of the text."""
+    pairs = zip(all_tokens, all_tokens[1:])
+    return {name.text for name, number in pairs if (name.kind, number.kind) == ("name", "number") and int(number.text, 16) == 0}
+
+
 def spelling(token):
     """A string without its quotes."""
     return token.text[token.text.index(b'"') + 1 : token.text.rindex(b'"')]

@@ -1,9 +1,10 @@
 """Grammar files of GNU Bison, written in the profile of docs/FORMATS.md line for line."""
 
 import re
+from collections import defaultdict
 
 import plain
-from bison import Refusal, tokens
+from bison import Refusal, end_tokens, tokens
 from bison_walk import Grammar
 
 NAME_BYTES = re.compile(rb"[A-Za-z0-9_.]")
@@ -46,25 +47,80 @@ class Lines:
         self.token(token)
 
 
-def plain_text(text):
+def walked(text):
     grammar = Grammar(text)
     grammar.declarations()
     grammar.rules()
+    return grammar
+
+
+def plain_text(grammar):
     lines, at, before = Lines(), 0, None
     for token in grammar.tokens:
-        lines.blanks(text[at : token.at])
+        lines.blanks(grammar.text[at : token.at])
         lines.part(before, token)
         at, before = token.at + len(token.text), token
-    return b"".join(lines.parts) + text[at:]
+    return b"".join(lines.parts) + grammar.text[at:]
+
+
+def kept_rules(grammar):
+    """The rules of a grammar whose plain text is one, with the places that their symbols have in its own text."""
+    kept = (token for token in grammar.tokens if not token.is_gone)
+    items = [plain.Item("name" if token.kind == "string" else token.kind, token.at, token.plain) for token in kept]
+    return [rule for rule in plain.rules(items) if not rule.has_error]
+
+
+def inner_end(rules, names):
+    """A place where more may stand behind the end of the text, as an item that holds it; None where there is none."""
+    uses = defaultdict(list)
+    for rule in rules:
+        for place, item in enumerate(rule.body):
+            uses[item.text].append((rule, place))
+    found, waiting = {*names}, [*names]
+    while waiting:
+        for rule, place in uses[waiting.pop()]:
+            if any(item.text not in names for item in rule.body[place + 1 :]):
+                return rule.body[place]
+            if rule.left.text not in found:
+                found.add(rule.left.text)
+                waiting.append(rule.left.text)
+    return None
+
+
+def take_out_ends(grammar):
+    """Takes the tokens with the number 0 out of the rules: a sentence ends where its text does. Gives whether there were any."""
+    names = end_tokens(grammar.tokens)
+    rules = kept_rules(grammar) if names else []
+    inner = inner_end(rules, names)
+    if inner:
+        listed = b", ".join(sorted(names)).decode()
+        raise Refusal(inner.at, f"the number 0 of {listed} is the end of the text, and more may stand behind it here: take it out")
+    places = {item.at for rule in rules for item in rule.body if item.text in names}
+    for token in grammar.tokens:
+        if token.at in places:
+            token.take_out()
+    return bool(places)
 
 
 def checked(text):
     """The plain text, which the profile's items and table take."""
-    written = plain_text(text)
+    grammar = walked(text)
+    written = plain_text(grammar)
     fault = plain.fault(written)
     if fault:
         raise Refusal(min(fault.at, len(text)), "no grammar file has this here: look whether bison takes the file")
-    return written
+    return plain_text(grammar) if take_out_ends(grammar) else written
+
+
+def has_ends(text):
+    """Whether rules hold a token that is the end of the text."""
+    try:
+        grammar = walked(text)
+    except Refusal:
+        return False
+    names = end_tokens(grammar.tokens)
+    rules = kept_rules(grammar) if names and not plain.fault(plain_text(grammar)) else []
+    return any(item.text in names for rule in rules for item in rule.body)
 
 
 def in_use(text):

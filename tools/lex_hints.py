@@ -2,6 +2,7 @@
 
 import re
 
+from bison import Refusal, end_tokens, tokens
 from flex import NAME
 from flex_macros import WORD
 from places import place
@@ -61,10 +62,22 @@ RETURNED = re.compile(rb"\breturn\b[\s(]*([A-Za-z_](?:\w|\s*::\s*)*)")
 TO_FILL_IN = r"/\* %s: .*; fill in: "
 
 
+def ends_in(grammar):
+    """The tokens of a grammar that are the end of the text; none where Bison doesn't read its tokens."""
+    try:
+        return end_tokens(tokens(grammar))
+    except Refusal:
+        return set()
+
+
 def of_missing(text, grammar, names):
     """What may be done where texts are missing, by the names of the tokens of which none is known."""
     if not names:
         return "the joined lexemes scan to other tokens there: --separator= names other bytes between two"
+    ended = [name for name in names if name.encode() in ends_in(grammar)]
+    if ended:
+        listed = ", ".join(ended)
+        return f"{listed} has the number 0, the end of the text: `tools/from_bison GRAMMAR.y` takes it out of the rules"
     to_fill_in = next(filter(None, (re.search((TO_FILL_IN % re.escape(name)).encode(), text) for name in names)), None)
     if to_fill_in:
         return f"a rule is to be filled in at {'line %d, column %d' % place(text, to_fill_in.start())}"

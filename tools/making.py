@@ -7,6 +7,8 @@ import subprocess
 import sys
 from concurrent.futures import ThreadPoolExecutor
 
+import bison_plain
+
 HERE = os.path.dirname(os.path.abspath(__file__))
 USAGE = 2
 # What `suite` needs has no limit; without one of the other outputs there is less to try.
@@ -41,6 +43,11 @@ def ran(words, path=os.devnull, seconds=None):
     return done.returncode, done.stderr.decode("utf-8", "replace").strip()
 
 
+def text_of(path):
+    with open(path, "rb") as file:
+        return file.read()
+
+
 class Maker:
     """Makes the outputs of a grammar and a scanner in a folder. `tell` gets each line for people."""
 
@@ -51,16 +58,20 @@ class Maker:
         return os.path.join(self.folder, name)
 
     def make_plain(self):
-        """Writes a grammar that isn't in the profile anew, where tools/from_bison can; a refused scanner is told
-        later."""
+        """Writes a grammar that isn't in the profile anew, or that has a token for the end of the text, where
+        tools/from_bison can; a refused scanner is told later."""
         status, said = ran([self.program, "rules", self.grammar])
-        if status != 1:
+        has_ends = status == 0 and bison_plain.has_ends(text_of(self.grammar))
+        if status != 1 and not has_ends:
             return
         plain = self.path("grammar.y")
         converted, why = ran([sys.executable, os.path.join(HERE, "from_bison"), self.grammar], plain)
+        if converted and has_ends:
+            raise NotMade(why)
         if converted:
             self.refuse(["rules", self.grammar], why)
-        self.tell(f"{self.grammar} isn't read as it is ({said}): what is tried is what tools/from_bison makes of it")
+        reason = "has a token with the number 0, the end of the text" if has_ends else f"isn't read as it is ({said})"
+        self.tell(f"{self.grammar} {reason}: what is tried is what tools/from_bison makes of it")
         self.grammar = plain
 
     def refuse(self, words, more=""):
