@@ -212,13 +212,33 @@ WITH_MACROS = [
     ("{ return yylval.i = '+'; }", "/*@token '+'*/ { return yylval.i = '+'; }", ""),
     ("return (int) (unsigned char) *yytext;", "return                       *yytext;", ""),
 ]
-# A grammar, a scanner's rules, what is written of these, and which tokens no rule gives.
+KEPT = "kept, but in no text: a comment can say what its action gives"
+# A grammar, a scanner's rules, what is written of these, and what is said.
 WITH_GRAMMAR = [
     (
         "%define api.token.prefix {T_}\n%token A B \"b\" C\n%%\ns : A \"b\" | error C ;\n",
         "a return T_A;\nb return yy::parser::make_B(loc);\nc return token::T_C;\n",
         "a /*@token A*/ return T_A;\nb /*@token B*/ return yy::parser::make_B(loc);\nc /*@token C*/ return token::T_C;\n",
         "",
+    ),
+    # What returns may be a macro that is defined elsewhere: a token is named, and that tells.
+    (
+        "%define api.token.prefix {T_}\n%token A B C\n%%\ns : A B C ;\n",
+        "a GIVE(T_A);\nb return debug(T_B);\nc { BEGIN(X); return T_C; }\nd GIVE(T_D);\ne /*@skip*/ T_A;\n",
+        "a /*@token not.a.token*/ GIVE(T_A);\nb return debug(T_B);\nc { BEGIN(X); return T_C; }\nd GIVE(T_D);\n"
+        "e /*@skip*/ T_A;\n",
+        f"from_flex: l.l:2:1: {KEPT}, as /*@token A*/: a GIVE(T_A);\n"
+        f"from_flex: l.l:3:1: {KEPT}, as /*@token B*/: b return debug(T_B);\n"
+        f"from_flex: l.l:4:1: {KEPT}, as /*@token C*/: c {{ BEGIN(X); return T_C; }}\n"
+        "from_flex: l.l: no rule gives these tokens, so sentences with them have no text: A, B, C\n",
+    ),
+    (
+        "%token A\n%%\ns : A '+' ;\n",
+        "a { if (x) return A; return BAD; }\n[+] return f(yytext[0]);\n",
+        "a { if (x) return A; return BAD; }\n[+] return f(yytext[0]);\n",
+        f"from_flex: l.l:2:1: {KEPT}, as /*@token A*/: a {{ if (x) return A; return BAD; }}\n"
+        f"from_flex: l.l:3:1: {KEPT}, or write `return yytext[0];` where it gives its own byte: [+] return f(yytext[0]);\n"
+        "from_flex: l.l: no rule gives these tokens, so sentences with them have no text: A\n",
     ),
     (
         "%token A B C D\n%%\ns : A B C D '+' ;\n",

@@ -19,6 +19,7 @@ LITERAL = re.compile(rb"'(?:\\.|[^'\\\n])*'")
 WORD = re.compile(rb"[A-Za-z0-9_]+")
 GIVEN = rb"yytext\[0\]|\*yytext|[A-Za-z_][A-Za-z0-9_]*|'(?:\\.|[^'\\\n])+'"
 RETURN = re.compile(rb"\breturn\b\s*((?:\(\s*)*)(" + GIVEN + rb")\s*((?:\)\s*)*);")
+RETURNS_OF_BYTE = re.compile(rb"\breturn\b[^;]*(?:yytext\s*\[\s*0\s*\]|\*\s*yytext)")
 OWN_BYTE = re.compile(rb"yytext\s*\[\s*0\s*\]|\*\s*yytext")
 # Types of which a cast changes no token, and casts to them; one to a type of one byte changes no literal.
 TYPES = rb"(?:const|unsigned|signed|int|short|long|char|enum|(?:\w+::)*(?:yytokentype|token_type|token_kind_type|yytoken_kind_t))\b"
@@ -134,16 +135,27 @@ def gives(action, macros, prefix):
     if mark:
         return Gives("token", (mark[1],)) if mark[1] else SKIP
     code = macros.spelled_out(action)
-    if changing(code):
-        return UNKNOWN
     ends = [found.end() for found in re.finditer(rb"\breturn\b", LITERAL.sub(lambda found: b"'" * len(found[0]), code))]
     values = [operand(code, end) for end in ends]
     found = [UNKNOWN if value is None else token_of(value, prefix) for value in values]
-    if not found:
-        return SKIP
-    if len({*found}) == 1:
-        return found[0]
-    return Gives("unknown", tuple(dict.fromkeys(name for given in found for name in given.names)))
+    if changing(code) or len({*found}) > 1:
+        return Gives("unknown", tuple(dict.fromkeys(name for given in found for name in given.names)))
+    return found[0] if found else SKIP
+
+
+def named_tokens(action, macros, tokens):
+    """The tokens that an action names, in its order; `tokens` has them by their names in the scanner."""
+    return tuple(dict.fromkeys(tokens[word] for word in WORD.findall(macros.spelled_out(action)) if word in tokens))
+
+
+def gives_of(action, macros, prefix, tokens):
+    """What an action gives, beside a grammar's tokens: one that returns nothing, but names a token, may return it in a macro
+    that is defined elsewhere. What isn't understood may be a token that it names."""
+    given = gives(action, macros, prefix)
+    if MARK.search(action) or given.names or given.kind not in ("skip", "unknown"):
+        return given
+    named = named_tokens(action, macros, tokens)
+    return Gives("unknown", named) if named else given
 
 
 def without_casts(action):
