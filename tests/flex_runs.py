@@ -138,6 +138,7 @@ ACTIONS = [
     ("{ return check(); /*@token A*/ }", "token"),
     ('{ say("return"); return A; }', "token"),
     ("return B; /* return */", "other"),
+    ("return '=';", "other"),
     ("", "nothing"),
     ("{ BEGIN_LINE = 1; }", "nothing"),
     ("BEGIN(X); /*@skip*/", "nothing"),
@@ -210,6 +211,7 @@ WITH_MACROS = [
     ("/* return */ return b = *yytext;", "/* return */ return yytext[0]  ;", ""),
     ("return b /* it */ = *yytext;", "return b /* it */ = *yytext;", "kept, but in no text: "),
     ("{ return yylval.i = '+'; }", "/*@token '+'*/ { return yylval.i = '+'; }", ""),
+    ("{ return yylval.i = '='; }", "/*@token '='*/ { return yylval.i = '='; }", ""),
     ("return (int) (unsigned char) *yytext;", "return                       *yytext;", ""),
 ]
 KEPT = "kept, but in no text: a comment can say what its action gives"

@@ -71,10 +71,15 @@ def of_name(name):
     return Gives("token", (name,)) if item and item.lastgroup in ("name", "literal") else UNKNOWN
 
 
+def without_literals(code):
+    """Code whose literals are quotes alone, so that a mark in one is none."""
+    return LITERAL.sub(lambda found: b"'" * len(found[0]), code)
+
+
 def depths(code):
     """For each byte how many parentheses are open before it."""
     depth = 0
-    for at, byte in enumerate(LITERAL.sub(lambda found: b"'" * len(found[0]), code)):
+    for at, byte in enumerate(without_literals(code)):
         depth -= byte == 0x29
         yield at, byte, depth
         depth += byte == 0x28
@@ -98,7 +103,8 @@ def inner(value):
 
 def assigned(value):
     """What is assigned where the value is an assignment; itself where it is none."""
-    places = [at for at, _, depth in depths(value) if depth == 0 and ASSIGNMENT.match(value, at)]
+    code = without_literals(value)
+    places = [at for at, _, depth in depths(code) if depth == 0 and ASSIGNMENT.match(code, at)]
     return value[places[-1] + 1 :].strip() if places else value
 
 
@@ -135,7 +141,7 @@ def gives(action, macros, prefix):
     if mark:
         return Gives("token", (mark[1],)) if mark[1] else SKIP
     code = macros.spelled_out(action)
-    ends = [found.end() for found in re.finditer(rb"\breturn\b", LITERAL.sub(lambda found: b"'" * len(found[0]), code))]
+    ends = [found.end() for found in re.finditer(rb"\breturn\b", without_literals(code))]
     values = [operand(code, end) for end in ends]
     found = [UNKNOWN if value is None else token_of(value, prefix) for value in values]
     if changing(code) or len({*found}) > 1:
