@@ -214,6 +214,22 @@ WITH_MACROS = [
     ("{ return yylval.i = '='; }", "/*@token '='*/ { return yylval.i = '='; }", ""),
     ("return (int) (unsigned char) *yytext;", "return                       *yytext;", ""),
 ]
+# A file of several start conditions; for each of some of them what is written behind the first %%, and what is said.
+CONDITIONS = """%s MORE
+%xtra TEXT  OTHER
+%%
+a return A;
+<TEXT>b return B;
+<TEXT,MORE>c return C;
+<*>d return D;
+<INITIAL>e return E;
+"""
+OF_CONDITIONS = [
+    ("INITIAL", "a return A;\n\n\nd return D;\ne return E;\n", ["5:7: ", "6:12: "]),
+    ("MORE", "a return A;\n\nc return C;\nd return D;\n\n", ["5:7: ", "8:10: left out: the start condition <INITIAL>: e return E;"]),
+    ("TEXT", "\nb return B;\nc return C;\nd return D;\n\n", ["4:1: left out: the start condition <INITIAL>: a return A;", "8:10: "]),
+    ("OTHER", "\n\n\nd return D;\n\n", ["4:1: ", "5:7: ", "6:12: ", "8:10: "]),
+]
 KEPT = "kept, but in no text: a comment can say what its action gives"
 # A grammar, a scanner's rules, what is written of these, and what is said.
 WITH_GRAMMAR = [
@@ -241,6 +257,23 @@ WITH_GRAMMAR = [
         f"from_flex: l.l:2:1: {KEPT}, as /*@token A*/: a {{ if (x) return A; return BAD; }}\n"
         f"from_flex: l.l:3:1: {KEPT}, or write `return yytext[0];` where it gives its own byte: [+] return f(yytext[0]);\n"
         "from_flex: l.l: no rule gives these tokens, so sentences with them have no text: A\n",
+    ),
+    # Rules that were left out may give them.
+    (
+        "%token A B C D LAST\n%%\ns : A B C D LAST ;\n",
+        "a return A;\n<S,T>b BEGIN(INITIAL); return B;\n<S,T>c return C;\n<S,T>a return A;\n^d return D;\n<<EOF>> return LAST;\n",
+        "a return A;\n\n\n\n\n\n",
+        "from_flex: l.l:3:6: left out: the start condition <S,T>: b BEGIN(INITIAL); return B;\n"
+        "from_flex: l.l:4:6: left out: the start condition <S,T>: c return C;\n"
+        "from_flex: l.l:5:6: left out: the start condition <S,T>: a return A;\n"
+        "from_flex: l.l:6:1: left out: the anchor ^: ^d return D;\n"
+        "from_flex: l.l:7:1: left out: the end <<EOF>>: <<EOF>> return LAST;\n"
+        "from_flex: l.l: no rule gives these tokens, so sentences with them have no text: B, C, D, LAST\n"
+        "from_flex: l.l: left out for the start condition <S,T>: B, C: write a rule for the whole text, or write the rules of "
+        "this condition by --condition S\n"
+        "from_flex: l.l: left out for the anchor ^: D: write a rule for the whole text\n"
+        "from_flex: l.l: left out for the end <<EOF>>: LAST: take it out of the grammar's rules, since a sentence ends where "
+        "its text does\n",
     ),
     (
         "%token A B C D\n%%\ns : A B C D '+' ;\n",
@@ -374,9 +407,22 @@ def grammar_rows(folder):
         yield f"a refused grammar: {status}, {out!r}, {said!r}"
 
 
+def condition_rows(folder):
+    """The rules of a start condition, which are those without any too where it is inclusive."""
+    written(folder, "l.l", CONDITIONS)
+    for name, wanted, told in OF_CONDITIONS:
+        status, out, said = tool(folder, "from_flex", "--condition", name, "l.l")
+        lines = said.replace("from_flex: l.l:", "").splitlines()
+        if (status, out.partition("%%\n")[2]) != (0, wanted) or not all(map(str.startswith, lines, told)) or len(lines) != len(told):
+            yield f"--condition {name}: {status}, {out!r}, {said}"
+    status, out, said = tool(folder, "from_flex", "-i", "--condition", "NONE", "l.l")
+    if (status, out) != (1, "") or not said.startswith("from_flex: l.l:3:1: no %x or %s line above declares"):
+        yield f"a start condition that isn't declared: {status}, {out!r}, {said}"
+
+
 def bad_calls(folder):
     written(folder, "l.l", "%%\na ;\n")
-    for words, wanted in (([], 2), (["-i"], 2), (["a", "b", "c"], 2), (["no.l"], 3), (["l.l", "no.y"], 3)):
+    for words, wanted in (([], 2), (["-i"], 2), (["--condition", "S"], 2), (["a", "b", "c"], 2), (["no.l"], 3), (["l.l", "no.y"], 3)):
         status, out, said = tool(folder, "from_flex", *words)
         if (status, out) != (wanted, "") or not said.startswith("from_flex: "):
             yield f"from_flex {words}: {status}, {said}"
@@ -392,7 +438,7 @@ def bad_calls(folder):
 
 def main():
     failed = []
-    for rows in (pattern_rows, match_rows, flex_rows, file_rows, action_rows, macro_rows, grammar_rows, bad_calls):
+    for rows in (pattern_rows, match_rows, flex_rows, file_rows, action_rows, macro_rows, grammar_rows, condition_rows, bad_calls):
         with tempfile.TemporaryDirectory() as folder:
             failed += rows(folder)
     if not BUILT:

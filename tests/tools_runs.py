@@ -269,6 +269,11 @@ MISSING = [
         "  `tools/from_flex l.l GRAMMAR.y` says which actions aren't understood, and what may stand in them\n",
     ),
 ]
+# What from_flex writes before a scanner, and the hint then.
+WRITTEN = (
+    "/* The rules of INITIAL of a.l, by from_flex.\n  kept, but in no text: why:\n    4 */\n",
+    "  the comment at its beginning tells which lines of a.l are left out or aren't understood: write rules for these\n",
+)
 # Other commands on these files: a last line, and what is said of it.
 ENDINGS = [
     (
@@ -484,6 +489,10 @@ def missing_texts(folder):
         fault, told = explained(folder, ["suite", "g.y", "l.l", "--criteria=rule", "--mutate=none"], None, 0, wrote)
         if fault or told.partition("\n")[2] != wanted:
             yield fault or f"{rules!r}: {told!r}, not {wanted!r}"
+    written(folder, "l.l", f"{WRITTEN[0]}%%\n{rules}")
+    fault, told = explained(folder, ["suite", "g.y", "l.l", "--criteria=rule", "--mutate=none"], None, 0, wrote)
+    if fault or not told.endswith(WRITTEN[1]):
+        yield fault or f"{WRITTEN[0]!r}: {told!r}"
 
 
 def ends_of_text(folder):

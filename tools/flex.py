@@ -11,6 +11,8 @@ LINE_MARK = re.compile(rb"/\*|//|[\"'{\n]")
 LINE_ENDS = re.compile(rb"[^\n]*")
 NAME = re.compile(rb"[A-Za-z_][A-Za-z0-9_-]*")
 BLANKS = re.compile(rb"[ \t\r]*")
+# A line that declares start conditions: whether they are exclusive, and their names.
+DECLARED = re.compile(rb"%(?:[sS]|(?P<exclusive>[xX]))[A-Za-z0-9_-]*(?P<names>[^\n]*)")
 # The names of start conditions; what they stand before may come on a later line.
 CONDITIONS = re.compile(rb"<([A-Za-z0-9_,*\s-]*)>(?:(?:[ \t\r]*\n)+[ \t]*)?")
 SCOPE = re.compile(rb"\{(?![A-Za-z_][A-Za-z0-9_-]*\})")
@@ -45,7 +47,7 @@ class Line(NamedTuple):
 
 
 class Rule(NamedTuple):
-    """A rule. Without start conditions it has none here; with INITIAL or `*` among them it is one of INITIAL too."""
+    """A rule. Without start conditions it has none here."""
 
     at: int
     conditions: tuple
@@ -56,9 +58,9 @@ class Rule(NamedTuple):
 
     kind = "rule"
 
-    @property
-    def is_initial(self):
-        return not self.conditions or b"INITIAL" in self.conditions or b"*" in self.conditions
+    def is_of(self, start, inclusive):
+        """Whether it is one of the rules of a start condition: without conditions it is one of all inclusive ones."""
+        return start in self.conditions or b"*" in self.conditions if self.conditions else start in inclusive
 
 
 def kind_of(kinds, text, at):

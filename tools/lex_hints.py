@@ -58,6 +58,8 @@ def hint(key, text, at):
 RETURNED = re.compile(rb"\breturn\b[\s(]*([A-Za-z_](?:\w|\s*::\s*)*)")
 
 
+# How the comment of tools/from_flex begins where it tells of lines.
+WRITTEN = re.compile(rb"/\* The rules of \S+ of ([^\n]*), by from_flex\.\n(?!Nothing)")
 # The comment of tools/start_lex in place of a rule.
 TO_FILL_IN = r"/\* %s: .*; fill in: "
 
@@ -86,4 +88,8 @@ def of_missing(text, grammar, names):
     found, name = next(pairs, (None, None))
     if found:
         return f"the scanner returns {found} for {name}: `tools/from_flex FILE GRAMMAR.y` reads names as Bison makes them"
+    source = WRITTEN.match(text)
+    if source:
+        of = source[1].decode(errors="replace")
+        return f"the comment at its beginning tells which lines of {of} are left out or aren't understood: write rules for these"
     return "`tools/from_flex FILE GRAMMAR.y` says which actions aren't understood, and what may stand in them"
