@@ -61,6 +61,8 @@ GUESSES = [
     ("%token IF_KW T_KW_OR\n%%\ns : IF_KW | T_KW_OR ;", '"if" return IF_KW; /* of its name before _KW: keyword */'),
     ("%token KW_OR\n%%\ns : KW_OR ;", '"or" return KW_OR; /* of its name behind KW_: keyword */'),
     ("%token K_STRING\n%%\ns : K_STRING ;", '"string" return K_STRING; /* of its name behind K_: keyword */'),
+    ("%token K_TEXT\n%%\ns : K_TEXT ;", '"text" return K_TEXT; /* of its name behind K_: keyword */'),
+    ("%token ICONST\n%%\ns : ICONST ;", "[0-9]+ return ICONST; /* of its name: number */"),
     ("%token TDO TIF TON TOR TAT\n%%\ns : TDO TIF TON TOR TAT ;", '"do" return TDO; /* of its name behind T: keyword */'),
     ("%token tDO\n%%\ns : tDO ;", '"do" return tDO; /* of its name behind t: keyword */'),
     ("%token LESS_LESS_MINUS\n%%\ns : LESS_LESS_MINUS ;", '"<<-" return LESS_LESS_MINUS; /* of its name: mark */'),

@@ -14,10 +14,10 @@ LEAST_NAMES, LEAST_SHARE = 5, 0.15
 ASSIGNMENT = ("assign", "asgn", "asg", "equals", "equal", "eq", "set")
 # The patterns of classes of texts, and what names tell them, in small letters and without `_`.
 CLASSES = {
-    "number": (rb"[0-9]+", "number num integer int digits unumber uint inum constant"),
-    "real number": (rb"[0-9]+\.[0-9]+", "real float double floating floatingpoint fnum realnumber dnumber"),
+    "number": (rb"[0-9]+", "number num integer int digits unumber uint inum constant iconst"),
+    "real number": (rb"[0-9]+\.[0-9]+", "real float double floating floatingpoint fnum realnumber dnumber fconst"),
     "word": (rb"[A-Za-z_][A-Za-z0-9_]*", "identifier ident id name symbol word variable atom varname idname lname"),
-    "string": (rb"\"([^\\\"\n]|\\.)*\"", "string str text quoted dquoted qstring tstring quotedstring cstring"),
+    "string": (rb"\"([^\\\"\n]|\\.)*\"", "string str text quoted dquoted qstring tstring quotedstring cstring sconst"),
     "character": (rb"'([^\\'\n]|\\.)'", "character charconst cconst charcon"),
     "regular expression": (rb"\/([^\\\/\n]|\\.)+\/", "regexp regex re regexpr regularexpression ere"),
 }
@@ -139,14 +139,15 @@ def of_name(names, name):
     around = {whole[0], whole[-1]} if len(whole) > 1 else set()
     marks = [] if around & NO_MARK else [mark for mark in map(mark_of, cores) if mark]
     found = [Guess("mark", quoted(text.encode()), "its name") for mark in marks for text in (mark, SECOND.get(mark)) if text]
-    kinds = [] if around & NO_CLASS else [kind for core in cores if (kind := class_of(core, names.has_types))]
+    is_keyword = bool(around & NO_CLASS)
+    kinds = [] if is_keyword else [kind for core in cores if (kind := class_of(core, names.has_types))]
     found += [Guess(kind, CLASSES[kind][0], "its name") for kind in kinds[:1]]
-    return found if kinds and "".join(bare) not in WEAK else [*found, of_word(name, parts, bare)]
+    return found if kinds and "".join(bare) not in WEAK else [*found, of_word(name, parts, bare, is_keyword)]
 
 
-def of_word(name, parts, bare):
+def of_word(name, parts, bare, is_keyword):
     """What a name tells that is neither a mark's nor a class's: a keyword, behind the mark that it begins with."""
-    if "".join(bare) in UNTOLD or (len(parts) > 1 and parts[-1] in UNTOLD_ENDS):
+    if not is_keyword and ("".join(bare) in UNTOLD or (len(parts) > 1 and parts[-1] in UNTOLD_ENDS)):
         return Guess("unknown", None, "its name tells no text")
     word = "_".join(bare)
     before, _, behind = name.lower().partition(word) if word in name.lower() else ("", word, "")
