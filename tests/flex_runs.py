@@ -139,6 +139,10 @@ ACTIONS = [
     ('{ say("return"); return A; }', "token"),
     ("return B; /* return */", "other"),
     ("return '=';", "other"),
+    ("{ yyerror(\"a\"); }", "foreign"),
+    ("{ say(stderr, \"error()\"); exit(1); }", "foreign"),
+    ("{ lex_error (); /*@skip*/ }", "nothing"),
+    ("{ errors++; }", "nothing"),
     ("", "nothing"),
     ("{ BEGIN_LINE = 1; }", "nothing"),
     ("BEGIN(X); /*@skip*/", "nothing"),
@@ -231,6 +235,22 @@ OF_CONDITIONS = [
     ("OTHER", "\n\n\nd return D;\n\n", ["4:1: ", "5:7: ", "6:12: ", "8:10: "]),
 ]
 KEPT = "kept, but in no text: a comment can say what its action gives"
+# A file whose functions change what is scanned, but for one, and the lines that are told.
+FUNCTIONS = """%{
+static int peek(void) { return input(); }
+%}
+%%
+"/*" { comment(); }
+a { count(); return A; }
+b { ahead(1); return B; }
+c peek();
+[ ]+ count();
+%%
+int comment() { int c; while ((c = ahead((1))) != '*') ; return '}'; }
+int ahead(int (x)) { if (x) { return peek(); } }
+void count(void) { FILE *input; say("input()"); }
+"""
+OF_FUNCTIONS = ["5:1: kept", "7:1: kept", "8:1: kept"]
 # A grammar, a scanner's rules, what is written of these, and what is said.
 WITH_GRAMMAR = [
     (
@@ -393,6 +413,13 @@ def macro_rows(folder):
             yield f"{action}: {status}, {found!r}, {said}"
 
 
+def function_rows(folder):
+    """A call of a function of the file that reads on is as such a call itself."""
+    status, _, said = rule_lines(folder, FUNCTIONS)
+    if status or len(said) != len(OF_FUNCTIONS) or not all(map(str.startswith, said, OF_FUNCTIONS)):
+        yield f"functions: {status}, {said}"
+
+
 def grammar_rows(folder):
     """A grammar beside the scanner tells how its tokens are named there, and which of them no rule gives."""
     for grammar, rules, wanted, told in WITH_GRAMMAR:
@@ -438,7 +465,8 @@ def bad_calls(folder):
 
 def main():
     failed = []
-    for rows in (pattern_rows, match_rows, flex_rows, file_rows, action_rows, macro_rows, grammar_rows, condition_rows, bad_calls):
+    of_files = (file_rows, action_rows, macro_rows, function_rows, grammar_rows, condition_rows)
+    for rows in (pattern_rows, match_rows, flex_rows, *of_files, bad_calls):
         with tempfile.TemporaryDirectory() as folder:
             failed += rows(folder)
     if not BUILT:

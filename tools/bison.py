@@ -216,8 +216,8 @@ def aliases(all_tokens):
 
 def end_tokens(all_tokens):
     """The names of the tokens with the number 0, which are the end of the text."""
-    pairs = zip(all_tokens, all_tokens[1:])
-    return {name.text for name, number in pairs if (name.kind, number.kind) == ("name", "number") and int(number.text, 16) == 0}
+    pairs = ((name, number) for name, number in zip(all_tokens, all_tokens[1:]) if number.kind == "number")
+    return {name.text for name, number in pairs if name.kind == "name" and int(number.text, 16) == 0}
 
 
 def spelling(token):

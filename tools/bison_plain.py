@@ -88,13 +88,13 @@ def inner_end(rules, names):
 
 
 def take_out_ends(grammar):
-    """Takes the tokens with the number 0 out of the rules: a sentence ends where its text does. Gives whether there were any."""
+    """Takes the tokens with the number 0 out of the rules, since a sentence ends where its text does; whether there were any."""
     names = end_tokens(grammar.tokens)
     rules = kept_rules(grammar) if names else []
     inner = inner_end(rules, names)
     if inner:
-        listed = b", ".join(sorted(names)).decode()
-        raise Refusal(inner.at, f"the number 0 of {listed} is the end of the text, and more may stand behind it here: take it out")
+        name = b", ".join(sorted(names)).decode()
+        raise Refusal(inner.at, f"the number 0 of {name} is the end of the text, and more may stand behind it here: take it out")
     places = {item.at for rule in rules for item in rule.body if item.text in names}
     for token in grammar.tokens:
         if token.at in places:

@@ -4,7 +4,7 @@ import re
 from typing import NamedTuple
 
 from flex_macros import blanked, without_text
-from plain import ITEM
+from plain import ITEM, Code
 
 # A word of these makes an action foreign wherever it stands in it.
 FOREIGN_WORDS = {b"REJECT", b"yymore", b"yyless", b"unput", b"input", b"BEGIN", b"yyterminate"}
@@ -12,6 +12,11 @@ FOREIGN_WORDS = {b"REJECT", b"yymore", b"yyless", b"unput", b"input", b"BEGIN", 
 CALLS = re.compile(
     rb"yy_(?:push|pop)_state|yyinput|yyrestart|yy_(?:switch_to|scan)_(?:buffer|string|bytes)|yy(?:push|pop)_buffer_state"
 )
+# What changes it in a function of the file's own, and how such a function begins.
+CHANGES = re.compile(rb"\b(?:BEGIN|REJECT)\b|\b(?:yymore|yyless|unput|input|" + CALLS.pattern + rb")\s*\(")
+FUNCTION = re.compile(rb"\b(?!(?:if|for|while|switch)\b)([A-Za-z_]\w*)\s*\((?:[^;{}()]|\([^;{}()]*\))*\)\s*(?=\{)")
+# A call by which a text is refused.
+REFUSES = re.compile(rb"(?i)(?:error|fatal|abort|exit|panic|illegal|invalid|unexpected|unrecogni[sz]ed)\w*\s*\(")
 # A mark of a token that no grammar has makes an action foreign.
 FOREIGN_MARK = b"/*@token not.a.token*/ "
 MARK = re.compile(rb"/\*@(?:skip|token[ \t]+(\S+))\*/")
@@ -49,6 +54,18 @@ def changing(code):
     """The first word that makes code change what is scanned, or None."""
     words = WORD.findall(LITERAL.sub(b" ", code))
     return next((word for word in words if word in FOREIGN_WORDS or CALLS.fullmatch(word)), None)
+
+
+def changing_functions(text):
+    """The functions that a file defines and that change what is scanned, themselves or by a call."""
+    code = blanked(text)
+    ends = ((found[1], found.end(), Code(code).block_end(found.end())) for found in FUNCTION.finditer(code))
+    bodies = [(name, code[begin:end]) for name, begin, end in ends if end is not None]
+    found, size = {name for name, body in bodies if CHANGES.search(body)}, -1
+    while size != len(found):
+        size = len(found)
+        found |= {name for name, body in bodies if not found.isdisjoint(WORD.findall(body))}
+    return found
 
 
 def plainly(action):
@@ -144,8 +161,10 @@ def gives(action, macros, prefix):
     ends = [found.end() for found in re.finditer(rb"\breturn\b", without_literals(code))]
     values = [operand(code, end) for end in ends]
     found = [UNKNOWN if value is None else token_of(value, prefix) for value in values]
-    if changing(code) or len({*found}) > 1:
+    if changing(code) or not macros.changing.isdisjoint(WORD.findall(code)) or len({*found}) > 1:
         return Gives("unknown", tuple(dict.fromkeys(name for given in found for name in given.names)))
+    if not found and REFUSES.search(code):
+        return UNKNOWN
     return found[0] if found else SKIP
 
 

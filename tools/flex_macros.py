@@ -52,7 +52,8 @@ class Macros:
     """The macros that a text defines: for each its parameters, or None, and its body."""
 
     def __init__(self, text):
-        definitions = {}
+        # The functions that change what is scanned.
+        self.changing, definitions = set(), {}
         for define in DEFINE.finditer(without_text(re.sub(rb"\\\r?\n", b" ", text))):
             body = define["body"].strip()
             listed = None if define["parameters"] is None else [name.strip() for name in define["parameters"].split(b",")]

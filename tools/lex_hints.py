@@ -90,6 +90,7 @@ def of_missing(text, grammar, names):
         return f"the scanner returns {found} for {name}: `tools/from_flex FILE GRAMMAR.y` reads names as Bison makes them"
     source = WRITTEN.match(text)
     if source:
-        of = source[1].decode(errors="replace")
-        return f"the comment at its beginning tells which lines of {of} are left out or aren't understood: write rules for these"
+        name = source[1].decode(errors="replace")
+        told = f"the comment at its beginning tells which lines of {name} are left out or aren't understood"
+        return f"{told}: write rules for these"
     return "`tools/from_flex FILE GRAMMAR.y` says which actions aren't understood, and what may stand in them"
