@@ -481,6 +481,17 @@ def good_runs(folder):
             yield fault or f"a good run of {words}: {told!r}"
 
 
+def slow_runs(folder):
+    """A run that took long isn't repeated to count what it wrote, and that is told."""
+    os.chmod(written(folder, "slow", "#!/bin/sh\nexec sleep 2.1\n"), 0o755)
+    written(folder, "g.y", ERROR_RULES)
+    words = [sys.executable, os.path.join(TOOLS, "explain"), os.path.join(folder, "slow"), "rules", "g.y"]
+    status, _, told = call(words, folder)
+    wanted = b"g.y: 2 rules left out for `error`; it took more than 2 seconds, so what it wrote isn't counted"
+    if status or not told.startswith(wanted):
+        yield f"a slow run: {status}, {told!r}"
+
+
 def missing_texts(folder):
     """Behind a good run stands how many texts are missing, and why."""
     written(folder, "g.y", "%token A B\n%%\ns : A B | B ;\n")
@@ -548,7 +559,7 @@ def sentences(_):
 def main():
     failed = []
     on_files = (plain_rows, not_plain_rows, calls, reports, places, lex_places, long_lines, others, good_runs)
-    on_files += (missing_texts, ends_of_text, faults)
+    on_files += (slow_runs, missing_texts, ends_of_text, faults)
     for rows in (*on_files, sentences):
         with tempfile.TemporaryDirectory() as folder:
             os.chmod(written(folder, "program", MADE_UP), 0o755)
