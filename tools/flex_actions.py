@@ -15,6 +15,8 @@ CALLS = re.compile(
 # What changes it in a function of the file's own, and how such a function begins.
 CHANGES = re.compile(rb"\b(?:BEGIN|REJECT)\b|\b(?:yymore|yyless|unput|input|" + CALLS.pattern + rb")\s*\(")
 FUNCTION = re.compile(rb"\b(?!(?:if|for|while|switch)\b)([A-Za-z_]\w*)\s*\((?:[^;{}()]|\([^;{}()]*\))*\)\s*(?=\{)")
+# Through how many functions a call of one that reads on is followed.
+MOST_CALLS = 20
 # A call by which a text is refused.
 REFUSES = re.compile(rb"(?i)(?:error|fatal|abort|exit|panic|illegal|invalid|unexpected|unrecogni[sz]ed)\w*\s*\(")
 # A mark of a token that no grammar has makes an action foreign.
@@ -58,13 +60,15 @@ def changing(code):
 
 def changing_functions(text):
     """The functions that a file defines and that change what is scanned, themselves or by a call."""
-    code = blanked(text)
-    ends = ((found[1], found.end(), Code(code).block_end(found.end())) for found in FUNCTION.finditer(code))
-    bodies = [(name, code[begin:end]) for name, begin, end in ends if end is not None]
-    found, size = {name for name, body in bodies if CHANGES.search(body)}, -1
-    while size != len(found):
-        size = len(found)
-        found |= {name for name, body in bodies if not found.isdisjoint(WORD.findall(body))}
+    code, bodies, end = blanked(text), [], 0
+    for function in FUNCTION.finditer(code):
+        if function.start() >= end:
+            end = Code(code).block_end(function.end()) or len(code)
+            bodies.append((function[1], code[function.end() : end]))
+    words = [(name, {*WORD.findall(body)}) for name, body in bodies]
+    found = {name for name, body in bodies if CHANGES.search(body)}
+    for _ in range(MOST_CALLS):
+        found |= {name for name, called in words if not found.isdisjoint(called)}
     return found
 
 
