@@ -4,10 +4,14 @@ The manifests of `s : 'x' ;` are worked by hand from docs/FORMATS.md, by both fo
 lists.l is the model's, which was made from the documents alone, and so are the chains of that grammar.
 """
 
+import fcntl
 import os
+import pty
+import struct
 import subprocess
 import sys
 import tempfile
+import termios
 
 from model.chains import Chains
 from model.manifest import Manifest
@@ -47,6 +51,8 @@ LISTS_RULES = [
     ("members", ["value"]),
     ("members", ["members", "','", "value"]),
 ]
+# What takes a line off a terminal.
+CLEARED = "\r\033[K"
 EDITS = ["delete", "insert", "replace", "swap"]
 
 
@@ -78,6 +84,23 @@ def call(tool, *words, **more):
     """The status, the output and the error output of a tool."""
     ran = subprocess.run([os.path.join(TOP, "tools", tool), *words], capture_output=True, timeout=300, **more)
     return ran.returncode, ran.stdout.decode(), ran.stderr.decode()
+
+
+def on_terminal(words, columns, **environment):
+    """What a run writes to a terminal that is its standard error, and to its standard output."""
+    ours, theirs = pty.openpty()
+    fcntl.ioctl(theirs, termios.TIOCSWINSZ, struct.pack("4H", 24, columns, 0, 0))
+    kept = {name: value for name, value in os.environ.items() if name not in ("CI", "TERM")}
+    run = subprocess.Popen(words, stdout=subprocess.PIPE, stderr=theirs, env={**kept, **environment})
+    os.close(theirs)
+    shown = b""
+    try:
+        while piece := os.read(ours, 4096):
+            shown += piece
+    except OSError:  # the terminal's end
+        pass
+    os.close(ours)
+    return shown.decode(), run.communicate(timeout=300)[0].decode()
 
 
 def written(folder, name, text):

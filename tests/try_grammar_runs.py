@@ -8,11 +8,15 @@ know them.
 
 import os
 import re
+import signal
+import subprocess
 import sys
+import time
 
 sys.dont_write_bytecode = True
 
-from suites import TOP, call, end, frame, lists_suite, written
+from rows import in_order
+from suites import CLEARED, TOP, call, end, frame, lists_suite, on_terminal, written
 
 GRAMMAR, SCANNER = (os.path.join(TOP, "examples", name) for name in ("lists.y", "lists.l"))
 WRONG = """conform wrong
@@ -39,6 +43,12 @@ rules) exit 0 ;;
 suite) cat FOLDER/lists ;;
 wrong) cat FOLDER/wrong ;;
 spell) exec sleep 4324 ;;
+*) {UNKNOWN} ;;
+esac
+"""
+SLOW = f"""case "$1" in
+rules) exit 0 ;;
+suite) exec sleep 4325 ;;
 *) {UNKNOWN} ;;
 esac
 """
@@ -103,6 +113,34 @@ def kept(folder):
             yield "the page that is kept"
 
 
+def progress(folder):
+    """On a terminal a line says that texts are made, and what is said meanwhile stands above it."""
+    written(folder, "lists", lists_suite())
+    bison = written(folder, "coded.y", open(GRAMMAR).read().replace("%{", "%code {", 1).replace("%}", "}", 1))
+    words = [program(folder, "old", OLD), bison, SCANNER, *frame("lists.py", "none")]
+    shown, output = on_terminal([os.path.join(TOP, "tools", "try_grammar"), *words], 80, TERM="xterm")
+    making, said = f"{CLEARED}making the texts", f"{CLEARED}conform try: {bison} isn't read as it is"
+    lines = [making + said, f"{making}{CLEARED}", f"{CLEARED}0 of 373 texts, 0 cases failed"]
+    if output != call("try_grammar", *words)[1] or not in_order(lines, shown) or not shown.endswith(CLEARED):
+        yield f"try on a terminal: {shown!r}, {output}"
+
+
+def interrupted(folder):
+    """An interrupt while texts are made is told, and the program isn't asked again why it ended."""
+    open(os.path.join(folder, "calls"), "w").close()
+    words = [os.path.join(TOP, "tools", "try_grammar"), program(folder, "slow", SLOW), GRAMMAR, SCANNER, "--", "cat"]
+    pipes = {"stdout": subprocess.PIPE, "stderr": subprocess.PIPE}
+    run, until = subprocess.Popen(words, start_new_session=True, **pipes), time.monotonic() + 60
+    while not any(line.startswith("suite") for line in calls(folder)) and time.monotonic() < until:
+        time.sleep(0.05)
+    time.sleep(0.5)
+    os.killpg(run.pid, signal.SIGINT)
+    found = run.communicate(timeout=60)
+    made = [line.split()[0] for line in calls(folder)]
+    if (run.returncode, *found) != (130, b"", b"conform try: interrupted\n") or made.count("suite") != 1:
+        yield f"an interrupt of try: {run.returncode}, {found}, {made}"
+
+
 def grammars(folder):
     """Grammars of Bison, files that are refused, and calls without a scanner or a parser."""
     written(folder, "lists", lists_suite())
@@ -136,4 +174,4 @@ def grammars(folder):
             yield f"try {words}: {found}"
 
 
-end(verdicts, others, kept, grammars)
+end(verdicts, others, kept, progress, interrupted, grammars)

@@ -14,7 +14,8 @@ import time
 
 sys.dont_write_bytecode = True
 
-from suites import FIRST, SECOND, TOP, call, end, frame, lists_suite, written
+from rows import in_order
+from suites import CLEARED, FIRST, SECOND, TOP, call, end, frame, lists_suite, on_terminal, written
 
 PYTHON = [sys.executable, "-c"]
 # A sleep that no other run of this script has begun; frame.py takes its seconds from here.
@@ -63,6 +64,30 @@ FRAMES = [
     ("leaves a child", "ended with status 0 without an answer: rule 2 (value : NAME)"),
     ("answers with a carriage return", "wrongly refused: rule 2 (value : NAME)"),
     ("ends well", "wrongly refused: rule 2 (value : NAME)"),
+]
+
+# The columns of a terminal, variables of the environment, and the lines that stand there in turn, each in the last one's
+# place: a parser that takes `x x` has three texts of FIRST, the third of which is a failed case.
+TERMINALS = [
+    (80, {"TERM": "xterm"}, ["0 of 3 texts, 0 cases failed", "2 of 3 texts, 0 cases failed", "finding the causes of what"]),
+    (80, {"TERM": "xterm", "NO_COLOR": "1"}, ["0 of 3 texts, 0 cases failed"]),
+    (0, {"TERM": "xterm"}, ["0 of 3 texts, 0 cases failed"]),
+    (12, {"TERM": "xterm"}, ["0 of 3 text", "2 of 3 text"]),
+    (80, {"TERM": "dumb"}, []),
+    (80, {"TERM": ""}, []),
+    (80, {"TERM": "xterm", "CI": "true"}, []),
+]
+# Runs a job that isn't in front of its terminal, which is its standard error.
+BEHIND = [
+    *("setsid", "sh", "-c", 'exec 3<>"$(readlink /proc/self/fd/2)"; exec "$@"', "sh"),
+    *("bash", "-mc", '"$@" & exec 2>/dev/null; wait $!', "bash"),
+]
+# Runs a tool that says in each look how far it is where that can't be written anew.
+HASTY = [
+    *PYTHON,
+    "import runpy, sys; sys.path.insert(0, sys.argv[1]); import progress; progress.SECONDS_BETWEEN_LINES = 0; "
+    "sys.argv = sys.argv[2:]; runpy.run_path(sys.argv[0], run_name='__main__')",
+    os.path.join(TOP, "tools"),
 ]
 
 # Words in which SUITE stands for a manifest.
@@ -127,18 +152,47 @@ def slow(folder):
 
 
 def interrupted(folder):
-    """An interrupt ends what runs, and what was seen so far is told."""
+    """An interrupt ends what runs, and what was seen so far is told; so it is where the parser is asked for its words."""
     path = written(folder, "interrupted", FIRST)
-    words = [os.path.join(TOP, "tools", "try_parser"), "--jobs", "1", "--seconds", "300", path, "--", *SLEEP.split()]
-    for number in (signal.SIGINT, signal.SIGTERM):
-        run = subprocess.Popen(words, stdout=subprocess.PIPE, stderr=subprocess.PIPE)
+    words = [os.path.join(TOP, "tools", "try_parser"), "--jobs", "1", "--seconds", "300", path, "--"]
+    asked_again = f"test -f /dev/stderr && exec {SLEEP}; test ! -s /dev/stdin"
+    rows = [(signal.SIGINT, SLEEP, "; 0 of 3 different texts run"), (signal.SIGTERM, SLEEP, "; 0 of 3 different texts run")]
+    rows.append((signal.SIGINT, asked_again, "cause 1: wrongly refused: rule 1 (s : 'x')\n"))
+    for number, script, said in rows:
+        run = subprocess.Popen([*words, "sh", "-c", script], stdout=subprocess.PIPE, stderr=subprocess.PIPE)
         until = time.monotonic() + 300
         while not left_over(SLEEP) and time.monotonic() < until:
             time.sleep(0.05)
         run.send_signal(number)
-        output = run.communicate(timeout=300)[0].decode()
-        if run.returncode != 130 or "; 0 of 3 different texts run" not in output or left_over(SLEEP):
-            yield f"an interrupt {number}: {run.returncode}, {output}"
+        output, errors = (piece.decode() for piece in run.communicate(timeout=300))
+        is_told = said in output and errors == "try_parser: interrupted: what was found up to then is told\n"
+        if run.returncode != 130 or not is_told or left_over(SLEEP):
+            yield f"an interrupt {number} of {script}: {run.returncode}, {output}, {errors}"
+
+
+def progress(folder):
+    """A line on a terminal says how far a run is, and is gone at the end; elsewhere one is said now and then. What is on
+    standard output stays the same."""
+    path = written(folder, "progress", FIRST)
+    # the last text takes longer, so that the others are counted before
+    script = "t=$(cat); case $t in 'x x') sleep 1 ;; '') exit 1 ;; esac"
+    words = [os.path.join(TOP, "tools", "try_parser"), "--jobs", "1", path, "--", "sh", "-c", script]
+    wanted = call("try_parser", *words[1:])[1]
+    for columns, environment, lines in TERMINALS:
+        shown, output = on_terminal(words, columns, **environment)
+        is_gone = shown.endswith(CLEARED) if lines else shown == ""
+        has_room = all(len(line) < (columns or 80) for line in shown.split(CLEARED))
+        if output != wanted or not (is_gone and has_room) or not in_order([CLEARED + line for line in lines], shown):
+            yield f"a terminal of {columns} columns with {environment}: {shown!r}, {output}"
+    shown, output = on_terminal([*BEHIND, *words], 80, TERM="xterm")
+    if (shown, output) != ("", wanted):
+        yield f"a job that isn't in front: {shown!r}, {output}"
+    done = subprocess.run([*HASTY, *words], capture_output=True, timeout=300)
+    lines = done.stderr.decode().splitlines()
+    if done.stdout.decode() != wanted or not in_order(["try_parser: 0 of 3 texts,", "try_parser: 2 of 3"], "\n".join(lines)):
+        yield f"lines of a log: {done}"
+    if not all(re.fullmatch(r"try_parser: [\w ]+(, \d cases? failed)?", line) for line in lines):
+        yield f"lines of a log: {lines}"
 
 
 def frames(folder):
@@ -216,4 +270,4 @@ def bad_calls(folder):
             yield f"try_parser {words}: {found}"
 
 
-end(alone, slow, interrupted, frames, starts, many, readers, missing, bad_calls)
+end(alone, slow, interrupted, progress, frames, starts, many, readers, missing, bad_calls)

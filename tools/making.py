@@ -3,6 +3,7 @@ knows."""
 
 import os
 import re
+import signal
 import subprocess
 import sys
 from concurrent.futures import ThreadPoolExecutor
@@ -40,6 +41,8 @@ def ran(words, path=os.devnull, seconds=None):
             done = subprocess.run(words, stdin=subprocess.DEVNULL, stdout=file, stderr=subprocess.PIPE, timeout=seconds)
         except subprocess.TimeoutExpired:
             return None, ""
+    if done.returncode == -signal.SIGINT:
+        raise KeyboardInterrupt
     return done.returncode, done.stderr.decode("utf-8", "replace").strip()
 
 

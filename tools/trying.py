@@ -16,16 +16,18 @@ import results
 from batch import NoAnswers, last_line
 from causes import Causes
 from options import BadCall
+from progress import Line
 from wording import cause_words, missing_words
 from workers import Run
 
 PASSED, FAILED, NOT_TRIED = 0, 1, 2
 INTERRUPTED = 130
 MOST_ASKED_AGAIN = 20
+NAME = "try_parser"
 
 
 def warn(told):
-    print(f"try_parser: {told}", file=sys.stderr)
+    print(f"{NAME}: {told}", file=sys.stderr)
 
 
 def write_lines(lines):
@@ -60,6 +62,7 @@ class Session:
         chosen = set(self.ordered)
         self.trials = [found for found in self.every if found in chosen]
         self.causes, self.warnings, self.interrupted = [], [], False
+        self.line = Line(NAME)
 
     def told(self, cause):
         return cause_words(cause, self.rules)
@@ -67,22 +70,28 @@ class Session:
     def run(self):
         run = Run(self.ordered, self.make, self.known.reason, self.asked)
         signal.signal(signal.SIGTERM, interrupt)
-        try:
-            run.run()
-            self.warnings = [*sorted(run.notes), *self.told_nothing()]
-        except KeyboardInterrupt:
-            self.interrupted = True
-        except (OSError, NoAnswers) as error:
-            raise BadCall(f"{self.asked.command[0]}: {getattr(error, 'strerror', None) or error}") from None
-        self.causes = [] if self.warnings else Causes(self.trials, self.rules).found()
+        with self.line:
+            try:
+                run.run(self.line)
+                self.warnings = [*sorted(run.notes), *self.told_nothing()]
+            except KeyboardInterrupt:
+                self.interrupted = True
+            except (OSError, NoAnswers) as error:
+                raise BadCall(f"{self.asked.command[0]}: {getattr(error, 'strerror', None) or error}") from None
 
-    def ask_again(self):
-        """Adds to the first causes what the parser wrote of their shortest texts."""
-        try:
-            for cause in [] if self.interrupted else self.causes[:MOST_ASKED_AGAIN]:
-                cause.wrote = self.wrote(cause)
-        except KeyboardInterrupt:
-            self.interrupted = True
+    def find_causes(self):
+        """Finds the causes, and what the parser writes of the shortest texts of the first of them."""
+        if self.warnings:
+            return
+        with self.line:
+            try:
+                self.line.tell("finding the causes of what failed")
+                self.causes = Causes(self.trials, self.rules).found()
+                for number, cause in enumerate([] if self.interrupted else self.causes[:MOST_ASKED_AGAIN], 1):
+                    self.line.tell(f"asking the parser what it writes of cause {number}")
+                    cause.wrote = self.wrote(cause)
+            except KeyboardInterrupt:
+                self.interrupted = True
 
     def told_nothing(self):
         """The warning where texts were tried that have to be taken and such that have to be refused, and the parser did
@@ -139,7 +148,8 @@ class Session:
         write_lines(reports.tap_lines(self.trials) if self.asked.tap else self.lines())
         told = "matches no failed case any more"
         stale = (f"{self.asked.known}: line {line.number} {told}: {line.text}" for line in self.stale())
-        for warning in chain(self.warnings, stale, self.told_missing()):
+        interrupted = ["interrupted: what was found up to then is told"] if self.interrupted else []
+        for warning in chain(interrupted, self.warnings, stale, self.told_missing()):
             warn(warning)
 
     def told_missing(self):
@@ -193,7 +203,7 @@ def try_outputs(outputs, asked):
     if not session.trials:
         raise BadCall(f"there is no case to try; {reports.textless(session.without_text)}")
     session.run()
-    session.ask_again()
+    session.find_causes()
     session.tell()
     try:
         session.write()

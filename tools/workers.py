@@ -1,35 +1,13 @@
-"""Workers that give texts to a parser, each text once, and a line on a terminal that counts them."""
+"""Workers that give texts to a parser, each text once."""
 
 import os
-import sys
 import threading
-import time
-from concurrent.futures import ThreadPoolExecutor
+from concurrent.futures import FIRST_EXCEPTION, ThreadPoolExecutor, wait
 
+from progress import SECONDS_BETWEEN_LOOKS
+from reports import amount
 from running import Group
 from trials import by_text
-
-SECONDS_BETWEEN_LINES = 0.1
-
-
-class Progress:
-    """A line on a terminal that counts texts and failures."""
-
-    def __init__(self, total):
-        self.total, self.done, self.failed = total, 0, 0
-        self.shown, self.next = sys.stderr.isatty(), 0
-
-    def count(self, failed):
-        self.done += 1
-        self.failed += failed
-        if self.shown and time.monotonic() >= self.next:
-            self.next = time.monotonic() + SECONDS_BETWEEN_LINES
-            told = f"{self.done} of {self.total} texts, {self.failed} cases failed"
-            print(f"\r{told}", end="", file=sys.stderr, flush=True)
-
-    def end(self):
-        if self.shown:
-            print("\r\033[K", end="", file=sys.stderr, flush=True)
 
 
 class Run:
@@ -40,11 +18,15 @@ class Run:
         self.texts = by_text(trials)
         self.make, self.judge, self.asked = make, judge, asked
         self.left, self.lock = iter(self.texts), threading.Lock()
-        self.progress, self.notes, self.stopped = Progress(len(self.texts)), set(), False
+        self.done, self.failed, self.notes, self.stopped = 0, 0, set(), False
+
+    def told(self):
+        """How far it is."""
+        return f"{self.done} of {amount(len(self.texts), 'text')}, {amount(self.failed, 'case')} failed"
 
     def next_text(self):
         with self.lock:
-            enough = self.asked.stop_after is not None and self.progress.failed >= self.asked.stop_after
+            enough = self.asked.stop_after is not None and self.failed >= self.asked.stop_after
             return None if self.stopped or enough else next(self.left, None)
 
     def note(self, text, outcome):
@@ -54,7 +36,8 @@ class Run:
             for found in self.texts[text]:
                 found.outcome = outcome
                 found.known = self.judge(found)
-            self.progress.count(sum(found.failed for found in self.texts[text]))
+            self.done += 1
+            self.failed += sum(found.failed for found in self.texts[text])
 
     def work(self):
         parser = self.make()
@@ -70,15 +53,21 @@ class Run:
         self.stopped = True
         Group.end_all()
 
-    def run(self):
+    def watch(self, workers, line):
+        """Tells the line how far it is, until all workers have ended or one has failed."""
+        left = workers
+        while left:
+            line.tell(self.told())
+            ended, left = wait(left, SECONDS_BETWEEN_LOOKS, FIRST_EXCEPTION)
+            for worker in ended:
+                worker.result()
+
+    def run(self, line):
         jobs = self.asked.jobs or (1 if self.asked.batch else os.cpu_count() or 1)
         with ThreadPoolExecutor(jobs) as pool:
             workers = [pool.submit(self.work) for _ in range(min(jobs, len(self.texts)))]
             try:
-                for worker in workers:
-                    worker.result()
+                self.watch(workers, line)
             except BaseException:
                 self.stop()
                 raise
-            finally:
-                self.progress.end()
