@@ -128,6 +128,7 @@ PLACES = [
     ("%token NUMBER\n%%\ne : e «nmuber | NUMBER ;\n", "Undefined", "the nearest name is NUMBER"),
     ("%%\nline : 'x' ;\nb : «lien ;\n", "Undefined", "the nearest name is line"),
     ("%%\ns : «PLUS ;\n", "Undefined", "a token is declared by %token PLUS"),
+    ("%%\ns : «FILE ;\n", "Undefined", "a token is declared by %token FILE"),
     ("%%\n\ts : 'a' «{ if (x) {\n y; }", "Unended", "a block goes through"),
     ("%%\ns : 'a' «{ if (x) { y;\n", "Unended", "the last brace that stays open begins at line 2, column 18"),
     ("%%\ns : 'a' «{ /* } ;", "Unended", "the last comment that stays open begins at line 2, column 11"),
@@ -199,17 +200,17 @@ LEX_PLACES = [
     ("%%\n»(«?i:x) return A;\n", "Syntax", "(?i:x) and its like are flex's"),
     ("%%\n»a(«?#b)c return A;\n", "Syntax", "(?#..) is flex's"),
     ("%%\n»a«[[:^digit:]] return A;\n", "Syntax", "[:^alpha:] and its like are flex's"),
-    ("%%\n»a«/b return A;\n", "Trailing", "r/s is an r with an s behind it: tools/from_flex l.l > plain.l leaves such rules out"),
+    ("%%\n»a«/b return A;\n", "Trailing", "r/s is an r with an s behind it: tools/from_flex l.l g.y > plain.l leaves such rules"),
     ("END »a«/b\n%%\na return A;\n", "Trailing", "r/s is an r with an s behind it, here in the part that END names"),
-    ("%%\n»«^a return A;\n", "Anchor", "tools/from_flex l.l > plain.l leaves such rules out"),
-    ("%%\n»a«$ return A;\n", "Anchor", "tools/from_flex l.l > plain.l leaves such rules out"),
+    ("%%\n»«^a return A;\n", "Anchor", "tools/from_flex l.l g.y > plain.l leaves such rules out"),
+    ("%%\n»a«$ return A;\n", "Anchor", "tools/from_flex l.l g.y > plain.l leaves such rules out"),
     ("%%\n»a«$b return A;\n", "Anchor", "within a pattern flex takes it for the byte itself"),
     ("%%\n»«<<EOF>> return A;\n", "Condition", "<<EOF>> is flex's"),
-    ("%%\n»«<INITIAL>a return A;\n", "Condition", "tools/from_flex l.l > plain.l writes such rules without <..>"),
-    ("%%\n»«<S>a return A;\n", "Condition", "tools/from_flex l.l > plain.l leaves such rules out"),
-    ("«%x S\n%%\na return A;\n", "StartCondition", "tools/from_flex l.l > plain.l keeps the rules of INITIAL"),
-    ("%option «case-insensitive\n%%\na return A;\n", "UnknownOption", "tools/from_flex l.l > plain.l writes each letter in both"),
-    ("%option «stack\n%%\na return A;\n", "UnknownOption", "tools/from_flex l.l > plain.l takes out what changes nothing"),
+    ("%%\n»«<INITIAL>a return A;\n", "Condition", "tools/from_flex l.l g.y > plain.l writes such rules without <..>"),
+    ("%%\n»«<S>a return A;\n", "Condition", "tools/from_flex l.l g.y > plain.l leaves such rules out"),
+    ("«%x S\n%%\na return A;\n", "StartCondition", "tools/from_flex l.l g.y > plain.l keeps the rules of INITIAL"),
+    ("%option «case-insensitive\n%%\na return A;\n", "UnknownOption", "tools/from_flex l.l g.y > plain.l writes each letter"),
+    ("%option «stack\n%%\na return A;\n", "UnknownOption", "tools/from_flex l.l g.y > plain.l takes out what changes nothing"),
     ("«%top{\n}\n%%\na return A;\n", "UnknownDirective", "this is flex's"),
 ]
 # Lines that no command writes today, or that no file brings about: those on the lex file, and want of memory and room.
@@ -254,7 +255,8 @@ MISSING = [
         "a return T_A;\nb return B;\n[ ] ;\n",
         '  no text lexeme A\n  text "b"\n',
         f"l.l: of 2 texts 1 missing\n  A: {UNKNOWN}\n"
-        "  the scanner returns T_A for A: `tools/from_flex l.l GRAMMAR.y` reads names as Bison makes them\n",
+        "  the scanner returns T_A for A: `tools/from_flex l.l GRAMMAR.y` with Bison's own grammar reads names as Bison makes "
+        "them\n",
     ),
     (
         "a return 'B';\n /* A: of its name: unknown; fill in: \"...\" return A; */\nb return B;\n[ ] ;\n",
@@ -266,7 +268,7 @@ MISSING = [
         "  no text lexeme A\n  no text lexeme B\n",
         "l.l: of 2 texts 2 missing\n  A, B: no text is known of these tokens: no rule is understood to give them, or rules above "
         "take their texts (`conform lexical` tells)\n"
-        "  `tools/from_flex l.l GRAMMAR.y` says which actions aren't understood, and what may stand in them\n",
+        "  `tools/from_flex l.l g.y` says which actions aren't understood, and what may stand in them\n",
     ),
 ]
 # What from_flex writes before a scanner, and the hint then.
@@ -512,7 +514,7 @@ def ends_of_text(folder):
     written(folder, "l.l", "%%\na return A;\nb return B;\n[ ] ;\n")
     wrote = '  no text lexeme LAST\n  text "b"\n'
     fault, told = explained(folder, ["suite", "g.y", "l.l", "--criteria=rule", "--mutate=none"], None, 0, wrote)
-    hint = "  LAST has the number 0, the end of the text: `tools/from_bison GRAMMAR.y` takes it out of the rules\n"
+    hint = "  LAST has the number 0, the end of the text: `tools/from_bison g.y` takes it out of the rules\n"
     if fault or not told.endswith(hint):
         yield fault or f"an end of the text: {told!r}"
 

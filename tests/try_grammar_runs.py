@@ -52,6 +52,12 @@ suite) exec sleep 4325 ;;
 *) {UNKNOWN} ;;
 esac
 """
+FLEXED = f"""case "$1" in
+rules) exit 0 ;;
+suite) echo 'conform: lex: StartCondition at 0' >&2; exit 1 ;;
+*) {UNKNOWN} ;;
+esac
+"""
 COMMA = "wrongly taken: ',' before ']'"
 NAME = "wrongly refused: rule 2 (value : NAME) as symbol 3 of rule 7 (members : members ',' value)"
 
@@ -152,6 +158,10 @@ def grammars(folder):
     said = "isn't read as it is (conform: yacc: UnknownDirective at 0)"
     if found[0] != 0 or "tools/from_bison" not in found[2] or said not in found[2]:
         yield f"a grammar of Bison: {found}"
+    flex = written(folder, "flex.l", "%x S\n%%\n")
+    found = tried(program(folder, "flexed", FLEXED), files=(bison, flex))
+    if found[0] != 2 or f"  tools/from_flex {flex} {bison} > plain.l keeps the rules of INITIAL" not in found[2]:
+        yield f"a scanner of flex's: {found}"
     for rest, status, said in ((" END ", 0, "a token with the number 0"), (" END 'x' ", 2, "from_bison: ")):
         ended = text.replace("%%", "%token END 0\n%%", 1).replace("%%\n", f"%%\nwhole : value{rest};\n", 1)
         found = tried(old, files=(written(folder, "ended.y", ended), SCANNER))

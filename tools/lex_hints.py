@@ -7,8 +7,8 @@ from flex import NAME
 from flex_macros import WORD
 from places import place
 
-WRITTEN_OUT = "tools/from_flex FILE > plain.l writes it out"
-LEFT_OUT = "tools/from_flex FILE > plain.l leaves such rules out, and says which"
+WRITTEN_OUT = "tools/from_flex FILE GRAMMAR > plain.l writes it out"
+LEFT_OUT = "tools/from_flex FILE GRAMMAR > plain.l leaves such rules out, and says which"
 # By the refusal: what stands at the place, and what it is; the first that fits.
 FORMS = {
     "lex: Pattern Syntax": (
@@ -24,16 +24,16 @@ FORMS = {
     ),
     "lex: Pattern Condition": (
         (r"<<EOF>>", "<<EOF>> is flex's, the end of the text: " + LEFT_OUT),
-        (r"<(?:INITIAL|\*)[>,]", "tools/from_flex FILE > plain.l writes such rules without <..>"),
+        (r"<(?:INITIAL|\*)[>,]", "tools/from_flex FILE GRAMMAR > plain.l writes such rules without <..>"),
         (r"<", LEFT_OUT),
     ),
-    "lex: StartCondition": ((r"%", "tools/from_flex FILE > plain.l keeps the rules of INITIAL alone"),),
+    "lex: StartCondition": ((r"%", "tools/from_flex FILE GRAMMAR > plain.l keeps the rules of INITIAL alone"),),
     "lex: UnknownOption": (
-        (r"case-insensitive|caseless", "tools/from_flex FILE > plain.l writes each letter in both cases"),
+        (r"case-insensitive|caseless", "tools/from_flex FILE GRAMMAR > plain.l writes each letter in both cases"),
         (r"lex-compat|posix-compat", "with it patterns mean something else: " + WRITTEN_OUT),
-        (r"", "tools/from_flex FILE > plain.l takes out what changes nothing"),
+        (r"", "tools/from_flex FILE GRAMMAR > plain.l takes out what changes nothing"),
     ),
-    "lex: UnknownDirective": ((r"%top|%[cr]\b", "this is flex's: tools/from_flex FILE > plain.l takes it out"),),
+    "lex: UnknownDirective": ((r"%top|%[cr]\b", "this is flex's: tools/from_flex FILE GRAMMAR > plain.l takes it out"),),
 }
 
 
@@ -79,7 +79,7 @@ def of_missing(text, grammar, names):
     ended = [name for name in names if name.encode() in ends_in(grammar)]
     if ended:
         listed = ", ".join(ended)
-        return f"{listed} has the number 0, the end of the text: `tools/from_bison GRAMMAR.y` takes it out of the rules"
+        return f"{listed} has the number 0, the end of the text: `tools/from_bison GRAMMAR` takes it out of the rules"
     to_fill_in = next(filter(None, (re.search((TO_FILL_IN % re.escape(name)).encode(), text) for name in names)), None)
     if to_fill_in:
         return f"a rule is to be filled in at {'line %d, column %d' % place(text, to_fill_in.start())}"
@@ -87,10 +87,11 @@ def of_missing(text, grammar, names):
     pairs = ((found.decode(), name) for name in names for found in sorted(given) if found.endswith(name.encode()))
     found, name = next(pairs, (None, None))
     if found:
-        return f"the scanner returns {found} for {name}: `tools/from_flex FILE GRAMMAR.y` reads names as Bison makes them"
+        call = "`tools/from_flex FILE GRAMMAR.y` with Bison's own grammar"
+        return f"the scanner returns {found} for {name}: {call} reads names as Bison makes them"
     source = WRITTEN.match(text)
     if source:
         name = source[1].decode(errors="replace")
         told = f"the comment at its beginning tells which lines of {name} are left out or aren't understood"
         return f"{told}: write rules for these"
-    return "`tools/from_flex FILE GRAMMAR.y` says which actions aren't understood, and what may stand in them"
+    return "`tools/from_flex FILE GRAMMAR` says which actions aren't understood, and what may stand in them"

@@ -56,6 +56,7 @@ class Maker:
 
     def __init__(self, program, grammar, scanner, folder, tell):
         self.program, self.grammar, self.scanner, self.folder, self.tell = program, grammar, scanner, folder, tell
+        self.given = grammar
 
     def path(self, name):
         return os.path.join(self.folder, name)
@@ -78,8 +79,10 @@ class Maker:
         self.grammar = plain
 
     def refuse(self, words, more=""):
-        """Ends with the program's own line, what it means, and what else is known."""
+        """Ends with the program's own line, what it means, and what else is known. What is said of a grammar that was
+        written anew is said of the given one, whose lines it has."""
         status, said = ran([sys.executable, os.path.join(HERE, "explain"), self.program, *words])
+        said = said.replace(self.grammar, self.given)
         raise NotMade("\n".join(filter(None, [said, more])) or f"{self.program} {words[0]} ended with status {status}")
 
     def make(self, name, choices, more):
