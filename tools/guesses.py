@@ -30,6 +30,8 @@ WEAK = {"name", "symbol", "word", "variable", "atom", "text", "quoted", "constan
 CLASS_ENDS = re.compile(r".*(identifier|ident|number|string)")
 # Prefixes and suffixes that say that it is no class, and those that say that it is no mark either.
 NO_CLASS, NO_MARK = {"kw", "k", "keyword"}, {"kw", "keyword"}
+# Names of marks that are keywords of languages too.
+MARK_WORDS = {*"and or not xor mod div shl shr at add subtract multiply divide less greater percent period space hash".split()}
 # Names of types: where one is there that names no class of texts, those that may be either are keywords.
 TYPES = {"int", "integer", "char", "float", "double", "real", "string"}
 TYPES_ALONE = {"char", "long", "short", "void", "bool", "boolean", "byte"}
@@ -79,6 +81,13 @@ class Names:
         self.has_common_letter = len(letters) == 1 and len(self.parts) >= LEAST_NAMES
         types = {"".join(self.cores(name)[-1]) for name in names} & (TYPES | TYPES_ALONE)
         self.has_types = len(types) > 1 and not types.isdisjoint(TYPES_ALONE)
+        self.no_mark = NO_MARK | {part for part in NO_CLASS if self.has_keywords_alone(part)}
+
+    def has_keywords_alone(self, part):
+        """Whether names that begin or end with this part are keywords: some tell no mark, and others only by a word."""
+        names = [name for name, parts in self.parts.items() if len(parts) > 1 and part in (parts[0], parts[-1])]
+        told = [{"".join(core) for core in self.cores(name) if mark_of(core)} for name in names]
+        return not all(told) and all(words <= MARK_WORDS for words in told)
 
     def cores(self, name):
         """The name's parts, then those without a common prefix, then without suffixes too."""
@@ -137,7 +146,7 @@ def of_name(names, name):
     if any(map(END_OF_TEXT.fullmatch, ["".join(whole), "".join(parts), *whole])):
         return [Guess("unknown", None, "its name tells the end of the text, which no pattern matches")]
     around = {whole[0], whole[-1]} if len(whole) > 1 else set()
-    marks = [] if around & NO_MARK else [mark for mark in map(mark_of, cores) if mark]
+    marks = [] if around & names.no_mark else [mark for mark in map(mark_of, cores) if mark]
     found = [Guess("mark", quoted(text.encode()), "its name") for mark in marks for text in (mark, SECOND.get(mark)) if text]
     is_keyword = bool(around & NO_CLASS)
     kinds = [] if is_keyword else [kind for core in cores if (kind := class_of(core, names.has_types))]
