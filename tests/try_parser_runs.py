@@ -145,6 +145,13 @@ def slow(folder):
         found = call("try_parser", "--seconds", "5", path, "--", "sh", "-c", script)
         if found[0] != 2 or said not in found[2] or time.monotonic() - began > 300 or left_over(SLEEP):
             yield f"a parser {script}: {found}"
+    log = written(folder, "log", "")
+    script = f"echo started >> {log}; test ! -s /dev/stdin || exec {SLEEP}; exit 1"
+    found = call("try_parser", "--seconds", "5", path, "--", "sh", "-c", script)
+    with open(log) as file:
+        count = len(file.readlines())
+    if found[0] != 1 or "cause 1: too slow: above 5 seconds: rule 1 (s : 'x')\n" not in found[1] or count != 3:
+        yield f"a parser that is slow is asked {count} times: {found}"
     once = call("try_parser", "--all", "--seconds", "0.3", "--stop-after", "1", "--jobs", "1", path, "--", "sleep", "5")
     has_stopped = "; 1 of 3 different texts run; 3 failed" in once[1]
     if once[0] != 1 or once[1].count("the parser: too slow") != 3 or not has_stopped:

@@ -17,6 +17,7 @@ from batch import NoAnswers, last_line
 from causes import Causes
 from options import BadCall
 from progress import Line
+from running import TAKEN, too_slow
 from wording import cause_words, missing_words
 from workers import Run
 
@@ -123,7 +124,9 @@ class Session:
         trial = cause.shortest
         if trial.outcome.told != cause.outcome:
             return trial.outcome.told
-        return "" if cause.outcome == "taken" else self.error_line(trial)
+        # One that was too slow would take as long again.
+        is_asked = trial.outcome not in (TAKEN, too_slow(self.asked.seconds))
+        return self.error_line(trial) if is_asked else ""
 
     def stale(self):
         """The known departures that are none any more."""
