@@ -7,6 +7,7 @@ lists.l is the model's, which was made from the documents alone, and so are the 
 import fcntl
 import os
 import pty
+import signal
 import struct
 import subprocess
 import sys
@@ -84,6 +85,11 @@ def call(tool, *words, **more):
     """The status, the output and the error output of a tool."""
     ran = subprocess.run([os.path.join(TOP, "tools", tool), *words], capture_output=True, timeout=300, **more)
     return ran.returncode, ran.stdout.decode(), ran.stderr.decode()
+
+
+def heed_interrupts():
+    """In a child before it begins: an interrupt ends it, though tests that run in the background ignore theirs."""
+    signal.signal(signal.SIGINT, signal.SIG_DFL)
 
 
 def on_terminal(words, columns, **environment):

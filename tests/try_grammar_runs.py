@@ -16,7 +16,7 @@ import time
 sys.dont_write_bytecode = True
 
 from rows import in_order
-from suites import CLEARED, TOP, call, end, frame, lists_suite, on_terminal, written
+from suites import CLEARED, TOP, call, end, frame, heed_interrupts, lists_suite, on_terminal, written
 
 GRAMMAR, SCANNER = (os.path.join(TOP, "examples", name) for name in ("lists.y", "lists.l"))
 WRONG = """conform wrong
@@ -136,7 +136,8 @@ def interrupted(folder):
     open(os.path.join(folder, "calls"), "w").close()
     words = [os.path.join(TOP, "tools", "try_grammar"), program(folder, "slow", SLOW), GRAMMAR, SCANNER, "--", "cat"]
     pipes = {"stdout": subprocess.PIPE, "stderr": subprocess.PIPE}
-    run, until = subprocess.Popen(words, start_new_session=True, **pipes), time.monotonic() + 60
+    run = subprocess.Popen(words, start_new_session=True, preexec_fn=heed_interrupts, **pipes)
+    until = time.monotonic() + 60
     while not any(line.startswith("suite") for line in calls(folder)) and time.monotonic() < until:
         time.sleep(0.05)
     time.sleep(0.5)

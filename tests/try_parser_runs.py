@@ -15,7 +15,7 @@ import time
 sys.dont_write_bytecode = True
 
 from rows import in_order
-from suites import CLEARED, FIRST, SECOND, TOP, call, end, frame, lists_suite, on_terminal, written
+from suites import CLEARED, FIRST, SECOND, TOP, call, end, frame, heed_interrupts, lists_suite, on_terminal, written
 
 PYTHON = [sys.executable, "-c"]
 # A sleep that no other run of this script has begun; frame.py takes its seconds from here.
@@ -166,7 +166,8 @@ def interrupted(folder):
     rows = [(signal.SIGINT, SLEEP, "; 0 of 3 different texts run"), (signal.SIGTERM, SLEEP, "; 0 of 3 different texts run")]
     rows.append((signal.SIGINT, asked_again, "cause 1: wrongly refused: rule 1 (s : 'x')\n"))
     for number, script, said in rows:
-        run = subprocess.Popen([*words, "sh", "-c", script], stdout=subprocess.PIPE, stderr=subprocess.PIPE)
+        pipes = {"stdout": subprocess.PIPE, "stderr": subprocess.PIPE}
+        run = subprocess.Popen([*words, "sh", "-c", script], preexec_fn=heed_interrupts, **pipes)
         until = time.monotonic() + 300
         while not left_over(SLEEP) and time.monotonic() < until:
             time.sleep(0.05)
