@@ -68,7 +68,7 @@ QUESTIONS = [
         FORMATS: ["So a user who wants few sentences runs the cases behind `first` alone, and misses no goal."],
     }),
     ("How long does the gate take?", {
-        CONTRIBUTING: ["| `rt ci` from nothing | 210 processor minutes,", "| `rt ci NAME` where the crate changed |"],
+        CONTRIBUTING: ["| `rt ci` from nothing | some 320 processor minutes", "| `rt ci NAME` where the crate changed |"],
     }),
     ("What is trusted?", {
         CLAIMS: ["## Trusted", "- The Rattle toolchain, the C library and the operating system."],
