@@ -29,7 +29,7 @@ MAIN = """\
 //! Judges the goals of a kind of the grammar in a file, and makes a checksum of their verdicts.
 #![tactic(auto)]
 
-use cs_choices::{Criteria, NODE_LIMIT};
+use cs_choices::Criteria;
 use cs_goals::{Goal, Goals, fits_goal};
 use cs_grammar::Weights;
 use cs_io::{Desk, DeskError, FolderDesk};
@@ -75,7 +75,7 @@ fn summed(alloc: Global, tables: &Tables, criteria: Criteria) -> u64 {
 }
 
 fn sums(alloc: Global, file: &YaccFile, has_contexts: bool) -> Option<(u64, u64, u64)> {
-    let weights = Weights::nodes(alloc, file.grammar().tokens(), NODE_LIMIT).ok()?;
+    let weights = Weights::nodes(alloc, file.grammar().tokens()).ok()?;
     let tables = Tables::new(alloc, file.grammar(), &weights).ok()?;
     let rule = summed(alloc, &tables, Criteria { rule: true, cdrc: false, pair: false });
     let context = summed(alloc, &tables, Criteria { rule: false, cdrc: has_contexts, pair: false });

@@ -20,7 +20,7 @@ MAIN = """\
 //! Judges the goals of a kind of the grammar in each file, and counts their verdicts.
 #![tactic(auto)]
 
-use cs_choices::{Criteria, NODE_LIMIT};
+use cs_choices::Criteria;
 use cs_goals::{Goal, Goals, fits_goal};
 use cs_grammar::Weights;
 use cs_io::{Desk, FolderDesk};
@@ -49,7 +49,7 @@ fn feasible(alloc: Global, tables: &Tables, criteria: Criteria) -> u64 {
 fn timed(rt: &HostRuntime, name: &str, file: &YaccFile) -> io::Result<()> {
     let alloc = rt.alloc();
     let begin = Instant::now(rt)?;
-    if let Ok(weights) = Weights::nodes(alloc, file.grammar().tokens(), NODE_LIMIT) {
+    if let Ok(weights) = Weights::nodes(alloc, file.grammar().tokens()) {
         if let Ok(tables) = Tables::new(alloc, file.grammar(), &weights) {
             let made = begin.elapsed(rt)?.as_micros();
             let contexts = feasible(alloc, &tables, Criteria { rule: false, cdrc: true, pair: false });

@@ -15,8 +15,8 @@ QUESTIONS = [
     ("Where does the number 10,000 live?", {
         FORMATS: ["| size of a derivation, by nodes | 10,000 |"],
         DESIGN: [
-            "| the limits of 10,000 nodes and 100,000 bytes | the constants `NODE_LIMIT` and `BYTE_LIMIT` |",
-            "`crates/cs_choices/specs/Limits.antt`",
+            "| the limits of 10,000 nodes and 100,000 bytes | the constants `LIMIT` and `BYTE_LIMIT` |",
+            "`crates/cs_grammar/specs/Weights.antt`",
         ],
     }),
     ("What may know a tree?", {

@@ -1,5 +1,5 @@
-//! What whoever asks for a text may choose: criteria of goals, operators of edits, slips of rules, what sizes count and up to
-//! which limit, and the format.
+//! What whoever asks for a text may choose: criteria of goals, operators of edits, slips of rules, what sizes count, and the
+//! format.
 //!
 //! # What it is for
 //!
@@ -7,12 +7,11 @@
 //!
 //! # What a contract sees
 //!
-//! The values themselves: definitions above say what a choice means. Meaning, in `specs/`: `Limits` (the limits of sizes).
+//! The values themselves. There is no `specs/`: definitions above say what a choice means.
 //!
 //! # What is proved
 //!
-//! The limits of sizes are those of the definitions, by a law, which is a function that does nothing. All else are types,
-//! without calls.
+//! Nothing is to prove: these are types alone, without calls.
 //!
 //! # What is only tested
 //!
@@ -29,4 +28,4 @@ pub use criteria::Criteria;
 pub use format::Format;
 pub use operators::Operators;
 pub use slips::Slips;
-pub use weigh::{BYTE_LIMIT, NODE_LIMIT, Weigh, size_limits};
+pub use weigh::Weigh;

@@ -20,9 +20,17 @@ pub record IsMeasure (w : Measure) : Type 0 where
 abbrev pub capped : ℕ → ℕ → ℕ
 capped limit n = min n (limit + 1)
 
--- nodes are counted, up to a limit: each of so many tokens has the number 1
-abbrev pub nodes : ℕ → ℕ → Measure
-nodes tokens limit = record { numbers = replicate tokens 1; limit = limit }
+-- the limits of sizes, which are this project's: a derivation tree above them is only known to exist. Where nodes are weighed
+abbrev pub node_limit : ℕ
+node_limit = 10000
+
+-- where bytes are weighed
+abbrev pub byte_limit : ℕ
+byte_limit = 100000
+
+-- nodes are counted: each of so many tokens has the number 1
+abbrev pub nodes : ℕ → Measure
+nodes tokens = record { numbers = replicate tokens 1; limit = node_limit }
 
 -- the number of a token whose text has this length, or that has no text: short texts are cheap, and none is dear
 abbrev pub byte_weight : Option ℕ → ℕ

@@ -16,7 +16,8 @@
 //! # What is proved
 //!
 //! Exactly the well-formed grammars are built. `expand` gives the yield of the one tree of a derivation of the start
-//! symbol, and else names the first fault of the list. The laws are functions that do nothing.
+//! symbol, and else names the first fault of the list. The laws are functions that do nothing; by one the limits of sizes
+//! are those of the definitions.
 //!
 //! # What is only tested
 //!
@@ -38,12 +39,19 @@ mod weights;
 pub use derivation::Derivation;
 pub use expansion::{ExpandError, expand, yield_of};
 pub use grammar::Grammar;
-pub use laws::{one_outcome, one_tree};
+pub use laws::{one_outcome, one_tree, size_limits};
 pub use numbers::{number_of, place_of};
 pub use rule::Rule;
 pub use stack::put_on_top;
 pub use symbol::{Mark, Symbol};
 pub use weights::{Weights, byte_weight};
+
+/// The most nodes that a derivation tree may have to be written out, where nodes are weighed. A larger one is only known
+/// to exist.
+pub const LIMIT: u32 = 10_000;
+
+/// The greatest size of a tree that is written out where bytes are weighed.
+pub const BYTE_LIMIT: u32 = 100_000;
 
 /// The most that the number of a token or the limit of weights may be.
 pub const MOST_WEIGHT: u32 = 1_000_000;

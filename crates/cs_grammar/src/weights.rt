@@ -4,8 +4,8 @@ ghost use Rattle.std.specs.Prelude.{◌≡◌, IfOk, All, length};
 ghost use Rattle.cs_grammar.specs.Grammar.{IsNumberOf};
 ghost use Rattle.cs_grammar.specs.Weights.{IsMeasure, number, nodes, byte_weight};
 
-use crate::MOST_WEIGHT;
 use crate::numbers::place_of;
+use crate::{LIMIT, MOST_WEIGHT};
 use std::alloc::{AllocError, Global};
 use std::marker::Model;
 
@@ -37,13 +37,15 @@ impl Weights {
         Weights { tokens, limit }
     }
 
-    /// Weights that count nodes, for so many tokens and with this limit: each number is 1.
-    pub fn nodes(alloc: Global, tokens: u16, limit: u32) -> Result<Weights, AllocError>
-        requires { IsNumberOf 1000000 limit }
-        ensures { IfOk result (λ weights. weights ≡ nodes tokens limit) }
+    /// Weights that count nodes, for so many tokens: each number is 1, and the limit is `LIMIT`.
+    pub fn nodes(alloc: Global, tokens: u16) -> Result<Weights, AllocError>
+        ensures { IfOk result (λ weights. weights ≡ nodes tokens) }
     {
         let tokens = vec![in alloc; 1; tokens as usize]?;
-        Ok(Weights { tokens, limit })
+        Ok(Weights {
+            tokens,
+            limit: LIMIT,
+        })
     }
 
     /// The size above which a tree is only known to exist. All weights are from 1 to `MOST_WEIGHT`.

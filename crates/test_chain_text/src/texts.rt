@@ -8,7 +8,7 @@ ghost use Rattle.cs_scanner.specs.Scan.Compared.{scanning};
 
 use cs_chain::total;
 use cs_chain_text::{Chained, write_chains};
-use cs_choices::{NODE_LIMIT, Weigh};
+use cs_choices::Weigh;
 use cs_fan::{Crew, OpenGate};
 use cs_grammar::Weights;
 use cs_io::{Halt, MemorySink};
@@ -140,7 +140,7 @@ fn write<'f, R: Threads + Sync>(
     requires work { HaveLexemes yacc.now work }
     requires few { length (chains yacc.now.grammar) ≤ 1000000 }
 {
-    let weights = Weights::nodes(alloc, yacc.grammar().tokens(), NODE_LIMIT)?;
+    let weights = Weights::nodes(alloc, yacc.grammar().tokens())?;
     let chained = Chained {
         yacc,
         weights: &weights,

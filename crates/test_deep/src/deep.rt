@@ -1,11 +1,10 @@
 // The text of `deep` for the files of sums and others.
 
 ghost use Rattle.std.specs.Prelude.{◌≡◌};
-ghost use Rattle.cs_choices.specs.Limits.{node_limit};
 ghost use Rattle.cs_grammar.specs.Weights.{nodes};
 ghost use Rattle.cs_writing.specs.Plan.Plans.{CanRender};
 
-use cs_choices::{Criteria, NODE_LIMIT, Operators, Weigh};
+use cs_choices::{Criteria, Operators, Weigh};
 use cs_deep::{Deep, write_deep};
 use cs_fan::{Crew, OpenGate};
 use cs_grammar::Weights;
@@ -115,7 +114,7 @@ fn write<'f, R: Threads + Sync>(
     row: Row,
     out: &mut MemorySink,
 ) -> Result<Answer, AllocError>
-    requires weights { weights.now ≡ nodes yacc.now.grammar.tokens node_limit }
+    requires weights { weights.now ≡ nodes yacc.now.grammar.tokens }
     requires work { CanRender yacc.now work.now }
 {
     let tables = Tables::new(alloc, yacc.grammar(), weights)?;
@@ -166,7 +165,7 @@ fn write_texts<R: Threads + Sync>(
         lexemes: &lexemes,
         separator: b" ",
     };
-    let weights = Weights::nodes(alloc, yacc.grammar().tokens(), NODE_LIMIT)?;
+    let weights = Weights::nodes(alloc, yacc.grammar().tokens())?;
     Ok(write(rt, alloc, yacc, &weights, &work, row, out)?)
 }
 

@@ -1,6 +1,6 @@
 // The spellings of small files, worked by hand: `docs/FORMATS.md` gives their lines. And an output that fails.
 
-use cs_choices::{NODE_LIMIT, Weigh};
+use cs_choices::Weigh;
 use cs_grammar::Weights;
 use cs_io::{Halt, MemorySink};
 use cs_lex::LexFile;
@@ -156,7 +156,7 @@ fn write(
     };
     let tokens = yacc.grammar().tokens();
     let lexemes = Lexemes::new(alloc, &scanner, tokens)?;
-    let weights = Weights::nodes(alloc, tokens, NODE_LIMIT)?;
+    let weights = Weights::nodes(alloc, tokens)?;
     let work = RenderWork {
         scanner: &scanner,
         lexemes: &lexemes,

@@ -2,7 +2,7 @@
 
 ghost use Rattle.cs_wrong.specs.Writing.Text.{HaveLexemes};
 
-use cs_choices::{NODE_LIMIT, Slips, Weigh};
+use cs_choices::{Slips, Weigh};
 use cs_fan::{Crew, OpenGate};
 use cs_grammar::Weights;
 use cs_io::{Halt, MemorySink};
@@ -224,7 +224,7 @@ fn write<'f, R: Threads + Sync>(
 ) -> Result<Result<(), Halt>, AllocError>
     requires { HaveLexemes yacc.now work.now }
 {
-    let weights = Weights::nodes(alloc, yacc.grammar().tokens(), NODE_LIMIT)?;
+    let weights = Weights::nodes(alloc, yacc.grammar().tokens())?;
     let asked = Wrong {
         yacc,
         weights: &weights,

@@ -6,7 +6,6 @@ use Rattle.cs_grammar.specs.Grammar.{PlainGrammar}
 use Rattle.cs_grammar.specs.Tree.{Tree, IsTree, code, size}
 use Rattle.cs_grammar.specs.Leftmost.{IsYield}
 use Rattle.cs_grammar.specs.Weights.{Measure, byte_weight, nodes}
-use Rattle.cs_choices.specs.Limits.{node_limit}
 use Rattle.cs_choices.specs.declared.weigh.Weigh.{Weigh}
 use Rattle.cs_choices.specs.declared.weigh.Weigh.TheVariants.{Nodes, Bytes}
 use Rattle.cs_goals.specs.declared.goal.Goal.{Goal}
@@ -35,7 +34,7 @@ IsLast list a = IsNumbered list (length list) a
 
 -- how trees are measured by these texts of tokens
 abbrev pub measured : Weigh → List (Option (List ℕ)) → Measure
-measured Nodes texts = nodes (length texts) node_limit
+measured Nodes texts = nodes (length texts)
 measured Bytes texts = record { numbers = map (λ (text : Option (List ℕ)). byte_weight (option_map length text)) texts; limit = 1000000 }
 
 -- by what the lines say

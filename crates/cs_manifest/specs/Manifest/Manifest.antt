@@ -6,7 +6,7 @@ use Rattle.std.specs.List.{All, AllZip, filter, flat_map, enumerate_from}
 use Rattle.cs_grammar.specs.Grammar.{PlainGrammar, IsNumberOf}
 use Rattle.cs_grammar.specs.Leftmost.{IsYield}
 use Rattle.cs_grammar.specs.Laws.{AtMostOne}
-use Rattle.cs_grammar.specs.Weights.{Measure, Weighed, byte_weight, nodes, weighed}
+use Rattle.cs_grammar.specs.Weights.{Measure, Weighed, byte_limit, byte_weight, nodes, weighed}
 use Rattle.cs_yacc.specs.Reading.File.{File}
 use Rattle.cs_choices.specs.declared.criteria.Criteria.{Criteria}
 use Rattle.cs_goals.specs.declared.goal.Goal.{Goal}
@@ -29,7 +29,6 @@ use Rattle.cs_manifest.specs.declared.manifest.verdict.SharedVerdict.{SharedVerd
 use Rattle.cs_manifest.specs.declared.manifest.verdict.SharedVerdict.TheVariants as shared
 use Rattle.cs_choices.specs.declared.format.Format.{Format}
 use Rattle.cs_choices.specs.declared.format.Format.TheVariants.{One, Two}
-use Rattle.cs_choices.specs.Limits.{byte_limit, node_limit}
 use Rattle.cs_choices.specs.declared.weigh.Weigh.{Weigh}
 use Rattle.cs_choices.specs.declared.weigh.Weigh.TheVariants.{Nodes, Bytes}
 use Rattle.cs_verdicts.specs.Closed.Closed.{AreClosedSets, ClosedSets}
@@ -77,8 +76,8 @@ byte_measure lexemes = record { numbers = map (λ text. byte_weight (option_map 
 
 -- how trees are measured where there are so many tokens: by their nodes, or by the bytes of these lexemes, where there are some
 abbrev pub measure_of : Weigh → ℕ → Option LexemeList → Measure
-measure_of Nodes tokens lexemes = nodes tokens node_limit
-measure_of Bytes tokens None = nodes tokens node_limit
+measure_of Nodes tokens lexemes = nodes tokens
+measure_of Bytes tokens None = nodes tokens
 measure_of Bytes tokens (Some lexemes) = byte_measure lexemes
 
 -- what goals' own texts are made by: in the second format cases have texts, and goals have none

@@ -12,7 +12,7 @@ use crate::ending::Ending;
 use crate::input::Refusal;
 use cs_chain::total;
 use cs_chain_text::{Chained, write_chains};
-use cs_choices::{NODE_LIMIT, Weigh};
+use cs_choices::Weigh;
 use cs_fan::{Crew, Gate};
 use cs_grammar::Weights;
 use cs_io::{Halt, Sink};
@@ -34,7 +34,7 @@ pub(crate) fn chains<R: Threads + Sync, O: Sink, G: Gate + Sync>(
     ensures writes { WritesChainsOf file.now result (used O.Sink out.old out.new) }
     ensures told { HasLine result }
 {
-    match Weights::nodes(alloc, file.grammar().tokens(), NODE_LIMIT) {
+    match Weights::nodes(alloc, file.grammar().tokens()) {
         Ok(weights) => chains_by(crew, alloc, file, &weights, Weigh::Nodes, None, out),
         Err(_) => Ending::Halted(Halt::Memory),
     }

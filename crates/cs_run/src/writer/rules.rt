@@ -1,13 +1,12 @@
 // The writer of `rules`.
 
 ghost use Rattle.std.specs.Prelude.{◌≡◌, OnErr, OnOk};
-ghost use Rattle.cs_choices.specs.Limits.{node_limit};
 ghost use Rattle.cs_grammar.specs.Weights.{nodes};
 ghost use Rattle.cs_run.specs.Writer.Suite.{IsRules};
 ghost use Rattle.cs_io.specs.declared.halt.Halt.TheVariants.{Failed};
 ghost use Rattle.cs_io.specs.Asked.{IsCalmForAll, MetFault, MetNone, Stopped, TookFront, TookOne};
 
-use cs_choices::{Criteria, NODE_LIMIT};
+use cs_choices::Criteria;
 use cs_fan::{Crew, Gate};
 use cs_grammar::Weights;
 use cs_io::{Halt, Sink};
@@ -38,7 +37,7 @@ pub fn write_rules<R: Threads + Sync, O: Sink, G: Gate + Sync>(
     ensures failed { Stopped Failed result → MetFault O.Sink out.old out.new }
     ensures room { IsCalmForAll O.Sink (IsRules file.now) out.old out.new }
 {
-    let weights = Weights::nodes(alloc, file.grammar().tokens(), NODE_LIMIT)?;
+    let weights = Weights::nodes(alloc, file.grammar().tokens())?;
     write_rule_goals(crew, alloc, file, &weights, out)
 }
 
@@ -50,7 +49,7 @@ fn write_rule_goals<'f, R: Threads + Sync, O: Sink, G: Gate + Sync>(
     weights: &'f Weights,
     out: &mut O,
 ) -> Result<(), Halt>
-    requires { weights.now ≡ nodes file.now.grammar.tokens node_limit }
+    requires { weights.now ≡ nodes file.now.grammar.tokens }
     ensures ok { OnOk result (TookOne O.Sink (IsRules file.now) out.old out.new) }
     ensures part { OnErr result (TookFront O.Sink (IsRules file.now) out.old out.new) }
     ensures no_fault { OnOk result (MetNone O.Sink out.old out.new) }

@@ -5,8 +5,8 @@ ghost use Rattle.cs_grammar.specs.Weights.{byte_weight};
 ghost use Rattle.cs_scanner.specs.Lexeme.Lexeme.{lexeme_in};
 ghost use Rattle.cs_manifest.specs.Manifest.Manifest.{byte_measure, measure_of};
 
-use cs_choices::{BYTE_LIMIT, NODE_LIMIT, Weigh};
-use cs_grammar::{Weights, byte_weight};
+use cs_choices::Weigh;
+use cs_grammar::{BYTE_LIMIT, Weights, byte_weight};
 use cs_scanner::Lexemes;
 use std::alloc::{AllocError, Global};
 
@@ -21,7 +21,7 @@ pub(crate) fn weights_of(
     ensures { IfOk result (λ weights. weights ≡ measure_of weigh tokens (Some lexemes.now)) }
 {
     match weigh {
-        Weigh::Nodes => Weights::nodes(alloc, tokens, NODE_LIMIT),
+        Weigh::Nodes => Weights::nodes(alloc, tokens),
         Weigh::Bytes => byte_weights(alloc, lexemes, tokens),
     }
 }

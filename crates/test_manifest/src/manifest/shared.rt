@@ -7,7 +7,7 @@ ghost use Rattle.cs_manifest.specs.Manifest.Head.{IsNamedHead};
 ghost use Rattle.cs_manifest.specs.Manifest.Named.{IsNamedGoal};
 
 use crate::manifest::lines::DELETED;
-use cs_choices::{NODE_LIMIT, Weigh};
+use cs_choices::Weigh;
 use cs_goals::Goal;
 use cs_grammar::{Derivation, Mark, Weights};
 use cs_io::{MemorySink, SinkError};
@@ -55,7 +55,7 @@ end goals 0 feasible 0 infeasible 0 large 0 negatives 0 cases 0
 fn closed_of(alloc: Global, yacc: &YaccFile) -> Result<Closed, AllocError>
     ensures { IfOk result (AreClosedSets yacc.now.grammar) }
 {
-    let weights = Weights::nodes(alloc, yacc.grammar().tokens(), NODE_LIMIT)?;
+    let weights = Weights::nodes(alloc, yacc.grammar().tokens())?;
     let tables = Tables::new(alloc, yacc.grammar(), &weights)?;
     Closed::new(alloc, &tables)
 }

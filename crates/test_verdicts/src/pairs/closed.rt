@@ -1,7 +1,6 @@
 ghost use Rattle.cs_grammar.specs.Grammar.{IsNumberOf};
 
 use crate::pairs::prepared::{X, Y};
-use cs_choices::NODE_LIMIT;
 use cs_grammar::Symbol::Nonterminal;
 use cs_grammar::{Symbol, Weights, number_of};
 use cs_least::{Costs, Embeds};
@@ -129,7 +128,7 @@ const OF_SUMS: Want = Want {
 
 fn check_sums(rt: &impl Abort, alloc: Global) -> Result<(), SampleError> {
     let grammar = grammar_of_sums(alloc)?;
-    let weights = Weights::nodes(alloc, 4, NODE_LIMIT)?;
+    let weights = Weights::nodes(alloc, 4)?;
     let costs = Costs::new(alloc, &grammar, &weights)?;
     let embeds = Embeds::new(alloc, costs)?;
     compare_all(rt, &Pairs::new(alloc, embeds)?, &[OF_SUMS, OF_SUMS]);

@@ -1,6 +1,5 @@
 use crate::pairs::prepared::Want::{Code, Nowhere, TooLarge};
 use crate::pairs::prepared::{A, FIRST, FOURTH, SECOND, THIRD, Want, X, Y, Z, is_wanted};
-use cs_choices::NODE_LIMIT;
 use cs_goals::{Goal, fits_goal};
 use cs_grammar::Symbol::{Nonterminal, Token};
 use cs_grammar::{Mark, Symbol, Weights};
@@ -63,7 +62,7 @@ fn check_pair(
 // So of each pair of a row, where nodes are counted.
 fn check(rt: &impl Abort, alloc: Global, row: Row) -> Result<(), SampleError> {
     let grammar = grammar_of(row.tokens, 13, rules(alloc, row.lines)?)?;
-    let weights = Weights::nodes(alloc, row.tokens, NODE_LIMIT)?;
+    let weights = Weights::nodes(alloc, row.tokens)?;
     let tables = Tables::new(alloc, &grammar, &weights)?;
     for want in row.wants {
         check_pair(rt, alloc, &tables, *want)?;

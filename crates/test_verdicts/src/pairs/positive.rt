@@ -2,7 +2,7 @@ ghost use Rattle.std.specs.Prelude.{◌<◌};
 
 use crate::pairs::prepared::Want::{Code, Nowhere, OfSize, TooLarge};
 use crate::pairs::prepared::{A, FIRST, FOURTH, SECOND, THIRD, Want, X, Y, Z, is_wanted};
-use cs_choices::{Criteria, NODE_LIMIT};
+use cs_choices::Criteria;
 use cs_goals::{Goal, fits_goal};
 use cs_grammar::Symbol::{Nonterminal, Token};
 use cs_grammar::{Mark, Rule, Symbol, Weights, number_of};
@@ -163,7 +163,7 @@ fn sums_and_one(alloc: Global) -> Result<Vec<Rule>, AllocError> {
 
 fn check_context_goals(rt: &impl Abort, alloc: Global) -> Result<(), SampleError> {
     let grammar = grammar_of(4, 3, sums_and_one(alloc)?)?;
-    let weights = Weights::nodes(alloc, 4, NODE_LIMIT)?;
+    let weights = Weights::nodes(alloc, 4)?;
     let costs = Costs::new(alloc, &grammar, &weights)?;
     let embeds = Embeds::new(alloc, costs)?;
     Ok(check_contexts(rt, alloc, &embeds)?)
@@ -204,7 +204,7 @@ fn count_pairs(rt: &impl Abort, alloc: Global, tables: &Tables) -> Result<u16, A
 
 fn feasible_pairs_of_sums(rt: &impl Abort, alloc: Global) -> Result<u16, SampleError> {
     let grammar = grammar_of_sums(alloc)?;
-    let weights = Weights::nodes(alloc, 4, NODE_LIMIT)?;
+    let weights = Weights::nodes(alloc, 4)?;
     let tables = Tables::new(alloc, &grammar, &weights)?;
     Ok(count_pairs(rt, alloc, &tables)?)
 }
@@ -288,7 +288,7 @@ fn check_positives<'t>(
 
 fn check_sums(rt: &impl Abort, alloc: Global) -> Result<(), SampleError> {
     let grammar = grammar_of_sums(alloc)?;
-    let weights = Weights::nodes(alloc, 4, NODE_LIMIT)?;
+    let weights = Weights::nodes(alloc, 4)?;
     let tables = Tables::new(alloc, &grammar, &weights)?;
     Ok(check_positives(rt, alloc, &tables)?)
 }

@@ -4,7 +4,6 @@ ghost use Rattle.cs_least.specs.Embed.Around.{HasLeastContext};
 ghost use Rattle.cs_least.specs.Embed.Contexts.{AreContextsOf};
 
 use crate::trees::prepared::chain;
-use cs_choices::NODE_LIMIT;
 use cs_grammar::{Grammar, Symbol, Weights, number_of};
 use cs_least::{Context, Contexts, Cost, Costs, Embeds};
 use cs_samples::{Lines, SampleError, grammar_of, rules, weights_of};
@@ -183,7 +182,7 @@ fn check_chain(
     requires tokens { grammar.now.tokens ≡ 1 }
     requires nonterminals { grammar.now.nonterminals ≡ 1024 }
 {
-    let weights = Weights::nodes(alloc, 1, NODE_LIMIT)?;
+    let weights = Weights::nodes(alloc, 1)?;
     let costs = Costs::new(alloc, grammar, &weights)?;
     let embeds = Embeds::new(alloc, costs)?;
     let want = Around(1023, outer, &[]);

@@ -1,5 +1,4 @@
 use crate::trees::prepared::chain;
-use cs_choices::NODE_LIMIT;
 use cs_grammar::Symbol::Nonterminal;
 use cs_grammar::{Derivation, Symbol, Weights};
 use cs_least::Cost::{Large, Least, Never};
@@ -101,7 +100,7 @@ fn least_trees_by_weights(rt: HostRuntime) -> Result<(), Fail> {
 
 fn check_chain(rt: &impl Abort, alloc: Global, backwards: bool) -> Result<(), SampleError> {
     let grammar = grammar_of(1, 1024, chain(alloc, backwards)?)?;
-    let weights = Weights::nodes(alloc, 1, NODE_LIMIT)?;
+    let weights = Weights::nodes(alloc, 1)?;
     let costs = Costs::new(alloc, &grammar, &weights)?;
     assert!(rt; costs.cost(Nonterminal(1)) == Least(1025));
     assert!(rt; costs.cost(Nonterminal(1024)) == Least(2));

@@ -1,5 +1,4 @@
 use crate::trees::prepared::derivation_of;
-use cs_choices::NODE_LIMIT;
 use cs_grammar::{Derivation, ExpandError, Grammar, Weights, byte_weight, expand};
 use cs_samples::{grammar_of_sums, sums};
 use std::alloc::{AllocError, Global};
@@ -97,7 +96,7 @@ fn a_rule_is_appended(rt: HostRuntime) -> Result<(), Fail> {
 // By definition: nodes are counted, and 10,000 is then the limit; other weights are as they were made.
 #[test]
 fn weights_of_tokens(rt: HostRuntime) -> Result<(), Fail> {
-    let nodes = Weights::nodes(rt.alloc(), 2, NODE_LIMIT)?;
+    let nodes = Weights::nodes(rt.alloc(), 2)?;
     assert!(rt; (nodes.limit(), nodes.number(2)) == (10_000, 1));
     let weights = Weights::new([129, 17].to_vec(rt.alloc())?, 100_000);
     assert!(rt; (weights.limit(), weights.number(1)) == (100_000, 129));

@@ -4,7 +4,6 @@ ghost use Rattle.std.specs.Prelude.{◌≡◌, IsTrue};
 ghost use Rattle.cs_grammar.specs.Grammar.{IsSymbolOf};
 ghost use Rattle.cs_pairs.specs.Kinds.Kinds.{IsKind};
 
-use cs_choices::NODE_LIMIT;
 use cs_grammar::Symbol::{Nonterminal, Token};
 use cs_grammar::{Derivation, Grammar, Symbol, Weights};
 use cs_least::Cost::{Large, Least, Never};
@@ -213,7 +212,7 @@ fn check_steps(rt: &impl Abort, alloc: Global, kinds: &Kinds) -> Result<(), Allo
 
 fn check_sums(rt: &impl Abort, alloc: Global) -> Result<(), SampleError> {
     let grammar = grammar_of_sums(alloc)?;
-    let weights = Weights::nodes(alloc, 4, NODE_LIMIT)?;
+    let weights = Weights::nodes(alloc, 4)?;
     let costs = Costs::new(alloc, &grammar, &weights)?;
     let kinds = Kinds::new(alloc, Embeds::new(alloc, costs)?)?;
     check_sums_of_costs(rt, &kinds);
@@ -229,7 +228,7 @@ fn steps_to_the_last_tokens_of_sums(rt: HostRuntime) -> Result<(), Fail> {
 
 #[test]
 fn costs_and_numbers(rt: HostRuntime) -> Result<(), Fail> {
-    let weights = Weights::nodes(rt.alloc(), 2, NODE_LIMIT)?;
+    let weights = Weights::nodes(rt.alloc(), 2)?;
     assert!(rt; step_cost(&weights, Least(7)) == Some(7));
     assert!(rt; step_cost(&weights, Large) == Some(10_001));
     assert!(rt; step_cost(&weights, Never).is_none());

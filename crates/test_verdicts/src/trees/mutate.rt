@@ -3,7 +3,7 @@
 ghost use Rattle.std.specs.Prelude.{◌≡◌, ◌↔◌, IsTrue, All};
 ghost use Rattle.cs_grammar.specs.Grammar.{IsNumberOf};
 
-use cs_choices::{NODE_LIMIT, Operators};
+use cs_choices::Operators;
 use cs_grammar::{Grammar, Mark, Symbol, Weights};
 use cs_least::{Costs, Embeds};
 use cs_mutate::Edit::{Delete, Insert, Replace, Swap};
@@ -124,7 +124,7 @@ fn check_cases(
     grammar: &Grammar,
     cases: &[Case],
 ) -> Result<(), AllocError> {
-    let weights = Weights::nodes(alloc, grammar.tokens(), NODE_LIMIT)?;
+    let weights = Weights::nodes(alloc, grammar.tokens())?;
     let costs = Costs::new(alloc, grammar, &weights)?;
     let embeds = Embeds::new(alloc, costs)?;
     let pairs = Pairs::new(alloc, embeds)?;
@@ -324,7 +324,7 @@ const COUNTS: [(Option<u16>, usize, usize); 4] = [
 fn kept_negatives_of_sums(rt: HostRuntime) -> Result<(), Fail> {
     let alloc = rt.alloc();
     let sums = grammar_of_sums(alloc)?;
-    let weights = Weights::nodes(alloc, 4, NODE_LIMIT)?;
+    let weights = Weights::nodes(alloc, 4)?;
     let costs = Costs::new(alloc, &sums, &weights)?;
     let embeds = Embeds::new(alloc, costs)?;
     let pairs = Pairs::new(alloc, embeds)?;

@@ -1,6 +1,6 @@
 // The entries of goals, batch by batch.
 
-use cs_choices::{Criteria, NODE_LIMIT};
+use cs_choices::Criteria;
 use cs_fan::{Crew, OpenGate};
 use cs_grammar::Weights;
 use cs_sample_files::{Trouble, sums};
@@ -33,7 +33,7 @@ fn two_batches<R: Threads + Sync>(
     alloc: Global,
 ) -> Result<(Vec<Made>, Vec<Made>), Trouble> {
     let yacc = sums(alloc)?;
-    let weights = Weights::nodes(alloc, yacc.grammar().tokens(), NODE_LIMIT)?;
+    let weights = Weights::nodes(alloc, yacc.grammar().tokens())?;
     let tables = Tables::new(alloc, yacc.grammar(), &weights)?;
     let plan = Plan {
         yacc: &yacc,

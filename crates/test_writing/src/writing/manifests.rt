@@ -2,12 +2,11 @@
 
 ghost use Rattle.std.specs.Prelude.{◌≡◌, IfSome};
 ghost use Rattle.cs_verdicts.specs.Closed.Closed.{AreClosedSets};
-ghost use Rattle.cs_choices.specs.Limits.{node_limit};
 ghost use Rattle.cs_grammar.specs.Weights.{nodes};
 ghost use Rattle.cs_writing.specs.Plan.Plans.{CanRender};
 
 use crate::writing::writers::letter_counts;
-use cs_choices::{Criteria, Format, NODE_LIMIT, Operators, Weigh};
+use cs_choices::{Criteria, Format, Operators, Weigh};
 use cs_fan::{Crew, OpenGate};
 use cs_grammar::Weights;
 use cs_io::{Halt, MemorySink};
@@ -105,7 +104,7 @@ fn write_goals<'f, R: Threads + Sync>(
 ) -> Result<Result<Counts, Halt>, AllocError>
     requires { CanRender yacc.now work.now }
 {
-    let weights = Weights::nodes(alloc, yacc.grammar().tokens(), NODE_LIMIT)?;
+    let weights = Weights::nodes(alloc, yacc.grammar().tokens())?;
     let tables = Tables::new(alloc, yacc.grammar(), &weights)?;
     if options.format == Format::One {
         return Ok(write_plan(rt, alloc, yacc, work, &tables, None, options, out));
@@ -127,7 +126,7 @@ fn write_plan<'f, R: Threads + Sync>(
 ) -> Result<Counts, Halt>
     requires work { CanRender yacc.now work.now }
     requires grammar { tables.now.grammar ≡ yacc.now.grammar }
-    requires weights { tables.now.weights ≡ nodes yacc.now.grammar.tokens node_limit }
+    requires weights { tables.now.weights ≡ nodes yacc.now.grammar.tokens }
     requires closed { IfSome closed (λ sets. AreClosedSets yacc.now.grammar sets.now) }
 {
     let _named = yacc.grammar();
