@@ -111,7 +111,7 @@ def main():
             bounds.row("  tables and pairs", made + pair, goals_most, "ms")
             bounds.row("  memory", used, MEGABYTES, "MB")
         for nonterminals in (128, 256, 512, 1024):
-            made, _, pair, _, pairs, _ = measured(path, folder, random_rules(nonterminals, 8, 12, 1))
+            made, _, pair, _, pairs, _ = best(path, folder, random_rules(nonterminals, 8, 12, 1))
             print(f"{nonterminals * 8} rules of up to 12 symbols: {pairs} pair goals are feasible")
             bounds.row("  tables", made, RANDOM[0], "ms")
             bounds.row("  tables and pairs", made + pair, RANDOM[1], "ms")
