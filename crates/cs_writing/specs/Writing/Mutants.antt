@@ -13,13 +13,14 @@ use Rattle.cs_manifest.specs.declared.manifest.counts.Counts.{Counts}
 use Rattle.cs_manifest.specs.Manifest.Lines.{is_feasible}
 use Rattle.cs_manifest.specs.Manifest.Manifest.{BaseEntry, BasesOf, GoalEntry, NegativeEntry, base_entry_lines, negative_entry_lines, negatives_of}
 use Rattle.cs_manifest.specs.Writer.Progress.{Progress}
-use Rattle.cs_writing.specs.Mutants.Makers.{Making}
+use Rattle.cs_writing.specs.Mutants.Makers.{AreToolsOf, Making, PlainTools}
 use Rattle.cs_writing.specs.Mutants.Mutants.{IsOfNegative}
 use Rattle.cs_mutate.specs.Negatives.{Search}
 use Rattle.cs_mutate.specs.Keeping.{AreKeptOf, Counters, Tells}
 use Rattle.cs_mutate.specs.declared.negative.Negative.{Negative}
 use Rattle.cs_writing.specs.declared.plan.plan.Plan.{Plan}
-use Rattle.cs_writing.specs.Plan.Plans.{choice_in, lexemes_in}
+use Rattle.cs_writing.specs.declared.plan.plan.Means.{Means}
+use Rattle.cs_writing.specs.Plan.Plans.{choice_in, lexemes_in, means_in}
 use Rattle.cs_texts.specs.declared.rendering.render_work.RenderWork.{RenderWork}
 use Rattle.cs_yacc.specs.Reading.File.{File}
 
@@ -91,6 +92,16 @@ module _ {S : Type 0} (g : Sink.Ghosts S) where
       (before : List Negative) → Tells counters before → PutsOne g (IsMade counters.first before manifest making search) old new result
 
 -- ---- bases and their negatives
+
+-- By whatever means the plan's negatives are made, these tools have its texts, and the counters tell that nothing was kept.
+pub record AreBegun (file : File) (means : Means) (tools : PlainTools) (counters : Counters) : Type 0 where
+  pub tools_are : AreToolsOf file means.work.now tools
+  pub first : counters.first ≡ means.mutation.first
+  pub tokens : counters.tokens ≡ means.mutation.pairs.now.grammar.tokens
+  pub told : Tells counters []
+
+abbrev pub IsBegun : Plan → PlainTools → Counters → Type 0
+IsBegun plan tools counters = (means : Means) → means_in plan.form ≡ Some means → AreBegun plan.yacc.now means tools counters
 
 -- the entries of these bases
 abbrev pub AreBasesIn : Plan → List (ℕ × List ℕ) → List BaseEntry → Type 0

@@ -1,7 +1,11 @@
 // The entries of goals, batch by batch.
 
 ghost use Rattle.std.specs.Prelude.{◌≡◌, All, IfOk, OnOk, length};
+ghost use Rattle.cs_manifest.specs.Manifest.Manifest.{most_bases};
+ghost use Rattle.cs_verdicts.specs.Cases.Cases.{no_cases};
+ghost use Rattle.cs_writing.specs.Bases.Bases.{no_bases};
 ghost use Rattle.cs_writing.specs.Plan.Made.{IsNamedMade};
+ghost use Rattle.cs_writing.specs.Plan.Plans.{choice_in};
 ghost use Rattle.cs_writing.specs.Writing.Written.{CountsCase, CountsEntry, HasNumbers, IsGoalsText, IsReady};
 ghost use Rattle.cs_writing.specs.Writing.Written.{PutsBatch, PutsCase, PutsEntry, TellsBatch, TellsGoals};
 ghost use Rattle.cs_io.specs.Stops.{PutsOne};
@@ -15,6 +19,14 @@ use cs_manifest::{Manifest, one_text};
 use cs_verdicts::{Cases, Positives};
 use std::alloc::Global;
 use std::thread::Threads;
+
+// What is kept from batch to batch: the cases, the bases, and the number of the last entry.
+#[derive(Drop)]
+struct Kept<'g> {
+    cases: Cases<'g>,
+    bases: Bases,
+    number: u64,
+}
 
 /// Writes the entries of all goals in the plan's form, numbered from 1, each behind its case where that is new, and
 /// answers their bases.
@@ -31,17 +43,42 @@ pub(crate) fn write_goals<R: Threads + Sync, S: Sink, G: Gate + Sync>(
     ensures told { IfOk result (TellsGoals plan.now positives.old manifest.old manifest.new) }
     ensures lent { S.lent sink.new ≡ S.lent sink.old }
 {
+    let mut kept = Kept {
+        cases: Cases::new(alloc, plan.yacc.grammar()),
+        bases: Bases::new(alloc, plan.most_bases()),
+        number: 0,
+    };
+    write_batches(crew, alloc, plan, positives, &mut kept, manifest, sink)?;
+    Ok(kept.bases)
+}
+
+// The same where nothing is kept yet.
+fn write_batches<R: Threads + Sync, S: Sink, G: Gate + Sync>(
+    crew: &Crew<'_, R, G>,
+    alloc: Global,
+    plan: &Plan<'_>,
+    positives: &mut Positives<'_>,
+    kept: &mut Kept<'_>,
+    manifest: &mut Manifest<'_>,
+    sink: &mut S,
+) -> Result<(), Halt>
+    requires ready { IsReady plan.now positives.old manifest.old }
+    requires cases { kept.old.cases ≡ no_cases plan.now.yacc.now.grammar }
+    requires bases { kept.old.bases ≡ no_bases (most_bases (choice_in plan.now)) }
+    requires number { kept.old.number ≡ 0 }
+    ensures text { PutsOne S.Sink (IsGoalsText plan.now positives.old) sink.old sink.new result }
+    ensures told { OnOk result
+        (TellsGoals plan.now positives.old manifest.old manifest.new kept.new.bases) }
+    ensures lent { S.lent sink.new ≡ S.lent sink.old }
+{
     one_text();
-    let mut bases = Bases::new(alloc, plan.most_bases());
-    let mut cases = Cases::new(alloc, plan.yacc.grammar());
-    let mut number = 0u64;
     'batches: loop {
-        let batch = next_entries(crew, alloc, plan, positives, &mut cases)?;
+        let batch = next_entries(crew, alloc, plan, positives, &mut kept.cases)?;
         if batch.is_empty() {
-            return Ok(bases);
+            return Ok(());
         }
-        keep_bases(&mut bases, number, &batch)?;
-        write_batch(manifest, sink, &mut number, &batch)?;
+        keep_bases(&mut kept.bases, kept.number, &batch)?;
+        write_batch(manifest, sink, &mut kept.number, &batch)?;
     }
 }
 

@@ -1,6 +1,6 @@
 use Rattle.std.proofs.Common.{◌≡◌}
 use Rattle.cs_writing.proofs.OnWriting.Mutated.{BasesSoFar}
-use Rattle.cs_writing.proofs.writing.mutants.write_bases.Given as goal
+use Rattle.cs_writing.proofs.writing.mutants.write_each.Given as goal
 
 abbrev pub invariant-loop-index : goal.invariant-loop-index
 invariant-loop-index g l = record {
