@@ -80,8 +80,8 @@ fn perform<R: Threads + Sync, D: Desk, O: Sink, G: Gate + Sync>(
             Arguments::Seed(seed) => summary(crew, alloc, seed, out),
             Arguments::Files(_) => unreachable!(),
         },
-        Meant::Grammar(file) => of_grammar(crew, alloc, request.command, file, out),
-        Meant::Pair(pair) => of_pair(crew, alloc, request.command, request.options, pair, out),
+        Meant::Grammar(file) => of_grammar(crew, alloc, request.command, &file, out),
+        Meant::Pair(pair) => of_pair(crew, alloc, request.command, &request.options, &pair, out),
         Meant::Text(beside) => of_third(alloc, request.command, &beside, out),
     }
 }
@@ -91,17 +91,17 @@ fn of_grammar<R: Threads + Sync, O: Sink, G: Gate + Sync>(
     crew: &Crew<'_, R, G>,
     alloc: Global,
     command: Command,
-    file: YaccFile,
+    file: &YaccFile,
     out: &mut O,
 ) -> Ending
     requires takes { TakesGrammar command }
-    ensures writes { WritesByGrammar command file result
+    ensures writes { WritesByGrammar command file.now result
         (used O.Sink out.old out.new) }
     ensures told { HasLine result }
 {
     match command {
         Command::OfGrammar(GrammarCommand::Rules) => rules(crew, alloc, file, out),
-        Command::OfGrammar(GrammarCommand::Chains) => chains(crew, alloc, &file, out),
+        Command::OfGrammar(GrammarCommand::Chains) => chains(crew, alloc, file, out),
         Command::OfPair(_) | Command::Member | Command::Check | Command::Gen => unreachable!(),
     }
 }
@@ -111,29 +111,29 @@ fn of_pair<R: Threads + Sync, O: Sink, G: Gate + Sync>(
     crew: &Crew<'_, R, G>,
     alloc: Global,
     command: Command,
-    options: Options,
-    pair: Pair,
+    options: &Options,
+    pair: &Pair,
     out: &mut O,
 ) -> Ending
     requires takes { TakesPair command }
-    ensures writes { WritesByPair command options pair result
+    ensures writes { WritesByPair command options.now pair.now result
         (used O.Sink out.old out.new) }
     ensures told { HasLine result }
 {
     match command {
-        Command::OfPair(PairCommand::Suite) => suite(crew, alloc, &options, &pair, out),
-        Command::OfPair(PairCommand::Lexical) => lexical(alloc, &pair, out),
+        Command::OfPair(PairCommand::Suite) => suite(crew, alloc, options, pair, out),
+        Command::OfPair(PairCommand::Lexical) => lexical(alloc, pair, out),
         Command::OfPair(PairCommand::Chains) => {
-            of_lexemes(crew, alloc, PairCommand::Chains, &options, &pair, out)
+            of_lexemes(crew, alloc, PairCommand::Chains, options, pair, out)
         }
         Command::OfPair(PairCommand::Spell) => {
-            of_lexemes(crew, alloc, PairCommand::Spell, &options, &pair, out)
+            of_lexemes(crew, alloc, PairCommand::Spell, options, pair, out)
         }
         Command::OfPair(PairCommand::Deep) => {
-            of_lexemes(crew, alloc, PairCommand::Deep, &options, &pair, out)
+            of_lexemes(crew, alloc, PairCommand::Deep, options, pair, out)
         }
         Command::OfPair(PairCommand::Wrong) => {
-            of_lexemes(crew, alloc, PairCommand::Wrong, &options, &pair, out)
+            of_lexemes(crew, alloc, PairCommand::Wrong, options, pair, out)
         }
         Command::OfGrammar(_) | Command::Member | Command::Check | Command::Gen => unreachable!(),
     }
@@ -158,14 +158,14 @@ fn of_third<O: Sink>(alloc: Global, command: Command, beside: &PairAndText, out:
 fn rules<R: Threads + Sync, O: Sink, G: Gate + Sync>(
     crew: &Crew<'_, R, G>,
     alloc: Global,
-    file: YaccFile,
+    file: &YaccFile,
     out: &mut O,
 ) -> Ending
-    ensures writes { WritesSure (IsRules file) result
+    ensures writes { WritesSure (IsRules file.now) result
         (used O.Sink out.old out.new) }
     ensures told { HasLine result }
 {
-    ended(write_rules(crew, alloc, &file, out))
+    ended(write_rules(crew, alloc, file, out))
 }
 
 // Writes the suite of a yacc file and a lex file.

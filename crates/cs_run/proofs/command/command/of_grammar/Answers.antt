@@ -9,10 +9,10 @@ pub returns-in-OfGrammar-Rules-clause-writes : goal.returns-in-OfGrammar-Rules-c
 returns-in-OfGrammar-Rules-clause-writes g c =
     let asked : c.in-OfGrammar-Rules.field-0 ≡ of_grammar.Rules = rw c.in-OfGrammar-Rules.is at c.in-OfGrammar-Rules.field-0-is in
     let is : c.args.command ≡ OfGrammar of_grammar.Rules = c.in-OfGrammar-Rules.is ∙ ap OfGrammar asked in
-    λ arguments options. rules_so c.rules.result _ c.args.command arguments options c.args.file is c.rules.ensures.writes
+    λ arguments options. rules_so c.rules.result _ c.args.command arguments options c.args.file.now is c.rules.ensures.writes
 
 pub returns-in-OfGrammar-Chains-clause-writes : goal.returns-in-OfGrammar-Chains-clause-writes
 returns-in-OfGrammar-Chains-clause-writes g c =
     let asked : c.in-OfGrammar-Chains.field-0 ≡ of_grammar.Chains = rw c.in-OfGrammar-Chains.is at c.in-OfGrammar-Chains.field-0-is in
     let is : c.args.command ≡ OfGrammar of_grammar.Chains = c.in-OfGrammar-Chains.is ∙ ap OfGrammar asked in
-    λ arguments options. chains_so c.chains.result _ c.args.command arguments options c.args.file is c.chains.ensures.writes
+    λ arguments options. chains_so c.chains.result _ c.args.command arguments options c.args.file.now is c.chains.ensures.writes
