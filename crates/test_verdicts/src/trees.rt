@@ -14,6 +14,6 @@ mod kinds;
 #[cfg(test)]
 mod mutate;
 #[cfg(test)]
-mod prepared;
+pub(crate) mod prepared;
 #[cfg(test)]
 mod ways;

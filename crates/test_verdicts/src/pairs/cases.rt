@@ -3,6 +3,7 @@
 ghost use Rattle.std.specs.Prelude.{◌<◌, ◌^◌, IfOk, IsTrue, length};
 ghost use Rattle.cs_goals.specs.Meets.{IsMeeting};
 
+use crate::trees::prepared::derivation_of;
 use cs_goals::{Goal, meets};
 use cs_grammar::Mark::{Begin, End, Token};
 use cs_grammar::{Derivation, Grammar, Mark, expand, yield_of};
@@ -48,7 +49,21 @@ fn place(
     }
 }
 
-// What is told of the code when it is placed for the goal, which its tree meets.
+// Whether this is told of a derivation when it is placed for the goal, which its tree meets.
+fn is_placed(
+    alloc: Global,
+    cases: &mut Cases,
+    goal: &Goal,
+    derivation: &Derivation,
+    want: Named,
+) -> Result<bool, AllocError> {
+    if derivation.rules().len() > 10 || !is_met(alloc, cases.grammar(), goal, derivation)? {
+        return Ok(false);
+    }
+    Ok(place(alloc, cases, goal, derivation)? == want)
+}
+
+// What is told of the code is what is wanted.
 fn check(
     rt: &impl Abort,
     alloc: Global,
@@ -56,16 +71,10 @@ fn check(
     goal: Goal,
     (code, (case, first, fresh)): Told,
 ) -> Result<(), AllocError> {
-    let mut derivation = Derivation::new(alloc);
-    derivation.extend_from_slice(code)?;
-    assert!(rt; derivation.rules().len() < 10);
-    assert!(rt;
-        is_met(alloc, cases.grammar(), &goal, &derivation)?,
-        "{goal:?}"
-    );
+    let derivation = derivation_of(alloc, code)?;
     let want = Named { case, first, fresh };
     assert!(rt;
-        place(alloc, cases, &goal, &derivation)? == want,
+        is_placed(alloc, cases, &goal, &derivation, want)?,
         "{goal:?}"
     );
     Ok(())
@@ -120,12 +129,16 @@ fn check_pairs(rt: &impl Abort, alloc: Global, cases: &mut Cases) -> Result<(), 
     Ok(())
 }
 
+fn check_all(rt: &impl Abort, alloc: Global, cases: &mut Cases) -> Result<(), AllocError> {
+    check_rules(rt, alloc, cases)?;
+    check_contexts(rt, alloc, cases)?;
+    check_pairs(rt, alloc, cases)
+}
+
 #[test]
 fn cases_of_sums(rt: HostRuntime) -> Result<(), Fail> {
     let grammar = grammar_of_sums(rt.alloc())?;
     let mut cases = Cases::new(rt.alloc(), &grammar);
-    check_rules(&rt, rt.alloc(), &mut cases)?;
-    check_contexts(&rt, rt.alloc(), &mut cases)?;
-    check_pairs(&rt, rt.alloc(), &mut cases)?;
+    check_all(&rt, rt.alloc(), &mut cases)?;
     Ok(())
 }

@@ -1,12 +1,13 @@
+ghost use Rattle.std.specs.Prelude.{◌≡◌, length};
 ghost use Rattle.cs_grammar.specs.Grammar.{IsNumberOf};
 
 use crate::pairs::prepared::{X, Y};
+use crate::trees::prepared::pairs_of;
 use cs_grammar::Symbol::Nonterminal;
-use cs_grammar::{Symbol, Weights, number_of};
-use cs_least::{Costs, Embeds};
+use cs_grammar::{Grammar, Symbol, Weights, number_of};
 use cs_pairs::Pairs;
 use cs_samples::{Lines, SampleError, grammar_of, grammar_of_sums, rules, weights_of};
-use std::alloc::Global;
+use std::alloc::{AllocError, Global};
 use std::process::Abort;
 use std::test::Fail;
 
@@ -71,6 +72,20 @@ fn compare_all(rt: &impl Abort, pairs: &Pairs, wants: &[Want]) {
     }
 }
 
+fn compare_by(
+    rt: &impl Abort,
+    alloc: Global,
+    grammar: &Grammar,
+    weights: &Weights,
+    wants: &[Want],
+) -> Result<(), AllocError>
+    requires { length weights.now.numbers ≡ grammar.now.tokens }
+{
+    let pairs = pairs_of(alloc, grammar, weights)?;
+    compare_all(rt, &pairs, wants);
+    Ok(())
+}
+
 // So of all nonterminals, where each token weighs 1 and a tree above the limit is only known to exist.
 fn check(
     rt: &impl Abort,
@@ -79,10 +94,7 @@ fn check(
 ) -> Result<(), SampleError> {
     let grammar = grammar_of(2, 2, rules(alloc, lines)?)?;
     let weights = weights_of(alloc, &[1, 1], limit)?;
-    let costs = Costs::new(alloc, &grammar, &weights)?;
-    let embeds = Embeds::new(alloc, costs)?;
-    compare_all(rt, &Pairs::new(alloc, embeds)?, &wants);
-    Ok(())
+    Ok(compare_by(rt, alloc, &grammar, &weights, &wants)?)
 }
 
 const S: Symbol = Nonterminal(1);
@@ -129,10 +141,8 @@ const OF_SUMS: Want = Want {
 fn check_sums(rt: &impl Abort, alloc: Global) -> Result<(), SampleError> {
     let grammar = grammar_of_sums(alloc)?;
     let weights = Weights::nodes(alloc, 4)?;
-    let costs = Costs::new(alloc, &grammar, &weights)?;
-    let embeds = Embeds::new(alloc, costs)?;
-    compare_all(rt, &Pairs::new(alloc, embeds)?, &[OF_SUMS, OF_SUMS]);
-    Ok(())
+    let wants = [OF_SUMS, OF_SUMS];
+    Ok(compare_by(rt, alloc, &grammar, &weights, &wants)?)
 }
 
 #[test]

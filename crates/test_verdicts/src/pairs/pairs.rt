@@ -1,8 +1,10 @@
+ghost use Rattle.std.specs.Prelude.{◌≡◌, length};
+
 use crate::pairs::prepared::Want::{Code, Nowhere, TooLarge};
 use crate::pairs::prepared::{A, FIRST, FOURTH, SECOND, THIRD, Want, X, Y, Z, is_wanted};
 use cs_goals::{Goal, fits_goal};
 use cs_grammar::Symbol::{Nonterminal, Token};
-use cs_grammar::{Mark, Symbol, Weights};
+use cs_grammar::{Grammar, Mark, Symbol, Weights};
 use cs_least::Cost;
 use cs_samples::{Lines, SampleError, grammar_of, rules};
 use cs_verdicts::{Tables, judge};
@@ -49,25 +51,46 @@ fn check_pair(
 ) -> Result<(), AllocError> {
     let goal = Goal::Pair { left, right };
     assert!(rt; fits_goal(tables.grammar(), &goal));
-    let adjacent = !matches!(want, Nowhere);
+    let pairs = tables.pairs();
+    let is_adjacent = pairs.adjacent(left, right) != matches!(want, Nowhere);
     assert!(rt;
-        tables.pairs().adjacent(left, right) == adjacent,
+        is_adjacent && is_cost(pairs.cost(left, right), want),
         "{goal:?}"
     );
-    assert!(rt; is_cost(tables.pairs().cost(left, right), want), "{goal:?}");
     assert!(rt; is_wanted(&judge(alloc, tables, &goal)?, want), "{goal:?}");
     Ok(())
+}
+
+fn check_pairs(
+    rt: &impl Abort,
+    alloc: Global,
+    tables: &Tables,
+    wants: &[(Mark, Mark, Want)],
+) -> Result<(), AllocError> {
+    for want in wants {
+        check_pair(rt, alloc, tables, *want)?;
+    }
+    Ok(())
+}
+
+fn check_by(
+    rt: &impl Abort,
+    alloc: Global,
+    grammar: &Grammar,
+    weights: &Weights,
+    wants: &[(Mark, Mark, Want)],
+) -> Result<(), AllocError>
+    requires { length weights.now.numbers ≡ grammar.now.tokens }
+{
+    let tables = Tables::new(alloc, grammar, weights)?;
+    check_pairs(rt, alloc, &tables, wants)
 }
 
 // So of each pair of a row, where nodes are counted.
 fn check(rt: &impl Abort, alloc: Global, row: Row) -> Result<(), SampleError> {
     let grammar = grammar_of(row.tokens, 13, rules(alloc, row.lines)?)?;
     let weights = Weights::nodes(alloc, row.tokens)?;
-    let tables = Tables::new(alloc, &grammar, &weights)?;
-    for want in row.wants {
-        check_pair(rt, alloc, &tables, *want)?;
-    }
-    Ok(())
+    Ok(check_by(rt, alloc, &grammar, &weights, row.wants)?)
 }
 
 // Worked by hand from the sums of an arithmetic grammar: its 12 pairs of neighbours, and the least trees of four of them.

@@ -1,12 +1,13 @@
-ghost use Rattle.std.specs.Prelude.{◌<◌};
+ghost use Rattle.std.specs.Prelude.{◌≡◌, ◌<◌, length};
 
 use crate::pairs::prepared::Want::{Code, Nowhere, OfSize, TooLarge};
 use crate::pairs::prepared::{A, FIRST, FOURTH, SECOND, THIRD, Want, X, Y, Z, is_wanted};
+use crate::trees::prepared::embeds_of;
 use cs_choices::Criteria;
 use cs_goals::{Goal, fits_goal};
 use cs_grammar::Symbol::{Nonterminal, Token};
-use cs_grammar::{Mark, Rule, Symbol, Weights, number_of};
-use cs_least::{Costs, Embeds};
+use cs_grammar::{Grammar, Mark, Rule, Symbol, Weights, number_of};
+use cs_least::Embeds;
 use cs_samples::{Lines, SampleError, grammar_of, grammar_of_sums, rules, sums, weights_of};
 use cs_verdicts::{Positive, Positives, Tables, Verdict, judge, judge_tree_goal};
 use std::alloc::{AllocError, Global};
@@ -38,11 +39,23 @@ fn check_told(
     Ok(())
 }
 
+fn check_by(
+    rt: &impl Abort,
+    alloc: Global,
+    grammar: &Grammar,
+    weights: &Weights,
+    wants: &[Want],
+) -> Result<(), AllocError>
+    requires { length weights.now.numbers ≡ grammar.now.tokens }
+{
+    let tables = Tables::new(alloc, grammar, weights)?;
+    check_told(rt, alloc, &tables, wants)
+}
+
 fn check(rt: &impl Abort, alloc: Global, row: Row) -> Result<(), SampleError> {
     let grammar = grammar_of(4, 14, rules(alloc, row.lines)?)?;
     let weights = weights_of(alloc, &row.numbers, row.limit)?;
-    let tables = Tables::new(alloc, &grammar, &weights)?;
-    Ok(check_told(rt, alloc, &tables, row.wants)?)
+    Ok(check_by(rt, alloc, &grammar, &weights, row.wants)?)
 }
 
 const S: Symbol = Nonterminal(1);
@@ -164,8 +177,7 @@ fn sums_and_one(alloc: Global) -> Result<Vec<Rule>, AllocError> {
 fn check_context_goals(rt: &impl Abort, alloc: Global) -> Result<(), SampleError> {
     let grammar = grammar_of(4, 3, sums_and_one(alloc)?)?;
     let weights = Weights::nodes(alloc, 4)?;
-    let costs = Costs::new(alloc, &grammar, &weights)?;
-    let embeds = Embeds::new(alloc, costs)?;
+    let embeds = embeds_of(alloc, &grammar, &weights)?;
     Ok(check_contexts(rt, alloc, &embeds)?)
 }
 
@@ -202,11 +214,22 @@ fn count_pairs(rt: &impl Abort, alloc: Global, tables: &Tables) -> Result<u16, A
     Ok(feasible)
 }
 
+fn feasible_pairs(
+    rt: &impl Abort,
+    alloc: Global,
+    grammar: &Grammar,
+    weights: &Weights,
+) -> Result<u16, AllocError>
+    requires { length weights.now.numbers ≡ grammar.now.tokens }
+{
+    let tables = Tables::new(alloc, grammar, weights)?;
+    count_pairs(rt, alloc, &tables)
+}
+
 fn feasible_pairs_of_sums(rt: &impl Abort, alloc: Global) -> Result<u16, SampleError> {
     let grammar = grammar_of_sums(alloc)?;
     let weights = Weights::nodes(alloc, 4)?;
-    let tables = Tables::new(alloc, &grammar, &weights)?;
-    Ok(count_pairs(rt, alloc, &tables)?)
+    Ok(feasible_pairs(rt, alloc, &grammar, &weights)?)
 }
 
 // The pair goals of the sums: 12 of 25 are feasible, as a table of neighbours by hand shows.
@@ -286,11 +309,22 @@ fn check_positives<'t>(
     Ok(())
 }
 
+fn check_positives_by(
+    rt: &impl Abort,
+    alloc: Global,
+    grammar: &Grammar,
+    weights: &Weights,
+) -> Result<(), AllocError>
+    requires { length weights.now.numbers ≡ grammar.now.tokens }
+{
+    let tables = Tables::new(alloc, grammar, weights)?;
+    check_positives(rt, alloc, &tables)
+}
+
 fn check_sums(rt: &impl Abort, alloc: Global) -> Result<(), SampleError> {
     let grammar = grammar_of_sums(alloc)?;
     let weights = Weights::nodes(alloc, 4)?;
-    let tables = Tables::new(alloc, &grammar, &weights)?;
-    Ok(check_positives(rt, alloc, &tables)?)
+    Ok(check_positives_by(rt, alloc, &grammar, &weights)?)
 }
 
 #[test]

@@ -1,11 +1,11 @@
-ghost use Rattle.std.specs.Prelude.{◌≡◌};
+ghost use Rattle.std.specs.Prelude.{◌≡◌, length};
 ghost use Rattle.cs_grammar.specs.Grammar.{IsNumberOf};
 ghost use Rattle.cs_least.specs.Embed.Around.{HasLeastContext};
 ghost use Rattle.cs_least.specs.Embed.Contexts.{AreContextsOf};
 
-use crate::trees::prepared::chain;
+use crate::trees::prepared::{chain, embeds_of};
 use cs_grammar::{Grammar, Symbol, Weights, number_of};
-use cs_least::{Context, Contexts, Cost, Costs, Embeds};
+use cs_least::{Context, Contexts, Cost, Embeds};
 use cs_samples::{Lines, SampleError, grammar_of, rules, weights_of};
 use std::alloc::{AllocError, Global};
 use std::process::Abort;
@@ -83,13 +83,24 @@ fn check_all(rt: &impl Abort, embeds: &Embeds, wants: &[Want<'_>]) -> Result<(),
 // Rules, the numbers of four tokens, and what is told of each nonterminal, where 200 is the limit.
 type Row = (Lines, [u32; 4], [Want<'static>; 4]);
 
+fn check_by(
+    rt: &impl Abort,
+    alloc: Global,
+    grammar: &Grammar,
+    weights: &Weights,
+    wants: &[Want<'_>],
+) -> Result<(), AllocError>
+    requires { length weights.now.numbers ≡ grammar.now.tokens }
+{
+    let embeds = embeds_of(alloc, grammar, weights)?;
+    check_all(rt, &embeds, wants)
+}
+
 fn check(rt: &impl Abort, alloc: Global, row: Row) -> Result<(), SampleError> {
     let (lines, numbers, wants) = row;
     let grammar = grammar_of(4, 14, rules(alloc, lines)?)?;
     let weights = weights_of(alloc, &numbers, 200)?;
-    let costs = Costs::new(alloc, &grammar, &weights)?;
-    let embeds = Embeds::new(alloc, costs)?;
-    Ok(check_all(rt, &embeds, &wants)?)
+    Ok(check_by(rt, alloc, &grammar, &weights, &wants)?)
 }
 
 const A: Symbol = Symbol::Nonterminal(2);
@@ -183,8 +194,7 @@ fn check_chain(
     requires nonterminals { grammar.now.nonterminals ≡ 1024 }
 {
     let weights = Weights::nodes(alloc, 1)?;
-    let costs = Costs::new(alloc, grammar, &weights)?;
-    let embeds = Embeds::new(alloc, costs)?;
+    let embeds = embeds_of(alloc, grammar, &weights)?;
     let want = Around(1023, outer, &[]);
     assert!(rt; is_told(&embeds, 1024, want)?);
     Ok(())

@@ -25,24 +25,30 @@ fn is_wanted(got: &Result<Vec<u16>, ExpandError>, want: Result<&[u16], ExpandErr
     }
 }
 
+const OUTCOMES: [(&[u16], Result<&[u16], ExpandError>); 6] = [
+    (&[1, 2, 3, 3], Ok(&[1, 2, 1])),
+    (&[2, 4, 2, 3], Ok(&[3, 1, 4])),
+    (&[2, 3, 3], Err(ExpandError::TooMany { at: 2 })),
+    (&[2, 4], Err(ExpandError::TooFew)),
+    (&[2, 1], Err(ExpandError::WrongRule { at: 1 })),
+    (&[0], Err(ExpandError::WrongRule { at: 0 })),
+];
+
+fn check_outcomes(rt: &impl Abort, alloc: Global, grammar: &Grammar) -> Result<(), AllocError> {
+    for (code, want) in OUTCOMES {
+        let got = outcome(rt, alloc, grammar, code)?;
+        assert!(rt; is_wanted(&got, want), "{code:?}");
+    }
+    Ok(())
+}
+
 // Worked by hand from the grammar; numbers of rules begin with 1.
 #[test]
 fn derivations_of_sums(rt: HostRuntime) -> Result<(), Fail> {
     let grammar = grammar_of_sums(rt.alloc())?;
     assert!(rt; (grammar.tokens(), grammar.nonterminals(), grammar.start()) == (4, 2, 1));
     assert!(rt; grammar.rules().len() == 4);
-    let rows: [(&[u16], Result<&[u16], ExpandError>); 6] = [
-        (&[1, 2, 3, 3], Ok(&[1, 2, 1])),
-        (&[2, 4, 2, 3], Ok(&[3, 1, 4])),
-        (&[2, 3, 3], Err(ExpandError::TooMany { at: 2 })),
-        (&[2, 4], Err(ExpandError::TooFew)),
-        (&[2, 1], Err(ExpandError::WrongRule { at: 1 })),
-        (&[0], Err(ExpandError::WrongRule { at: 0 })),
-    ];
-    for (code, want) in rows {
-        let got = outcome(&rt, rt.alloc(), &grammar, code)?;
-        assert!(rt; is_wanted(&got, want), "{code:?}");
-    }
+    check_outcomes(&rt, rt.alloc(), &grammar)?;
     Ok(())
 }
 

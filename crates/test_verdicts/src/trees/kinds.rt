@@ -1,13 +1,15 @@
 // Kinds of trees by what they yield: sizes, codes and steps that were worked by hand, where nodes are counted.
 
-ghost use Rattle.std.specs.Prelude.{◌≡◌, IsTrue};
+ghost use Rattle.std.specs.Prelude.{◌≡◌, IfOk, IsTrue, length};
+ghost use Rattle.cs_grammar.specs.Weights.{weighed};
 ghost use Rattle.cs_grammar.specs.Grammar.{IsSymbolOf};
 ghost use Rattle.cs_pairs.specs.Kinds.Kinds.{IsKind};
 
+use crate::trees::prepared::embeds_of;
 use cs_grammar::Symbol::{Nonterminal, Token};
 use cs_grammar::{Derivation, Grammar, Symbol, Weights};
 use cs_least::Cost::{Large, Least, Never};
-use cs_least::{Cost, Costs, Embeds, Reach, Step, told_cost};
+use cs_least::{Cost, Reach, Step, told_cost};
 use cs_pairs::TreeKind::{Any, Begins, Empty, Ends};
 use cs_pairs::{
     Kinds, Row, Sweep, TreeKind, chosen_of_kind_exists, kind_into, one_chosen_of_kind, step_cost,
@@ -42,6 +44,17 @@ fn is_symbol(grammar: &Grammar, symbol: Symbol) -> bool
     }
 }
 
+fn kinds_of<'g>(
+    alloc: Global,
+    grammar: &'g Grammar,
+    weights: &'g Weights,
+) -> Result<Kinds<'g>, AllocError>
+    requires { length weights.now.numbers ≡ grammar.now.tokens }
+    ensures { IfOk result (λ kinds. kinds ≡ weighed grammar.now weights.now) }
+{
+    Kinds::new(alloc, embeds_of(alloc, grammar, weights)?)
+}
+
 fn check_told(rt: &impl Abort, kinds: &Kinds, told: &[Told]) {
     for (kind, symbol, want) in told {
         assert!(rt; is_kind(kinds.grammar().tokens(), *kind));
@@ -70,6 +83,18 @@ fn check_both(
     Ok(())
 }
 
+fn check_all_both(
+    rt: &impl Abort,
+    alloc: Global,
+    kinds: &Kinds,
+    both: &[Both],
+) -> Result<(), AllocError> {
+    for row in both {
+        check_both(rt, alloc, kinds, row)?;
+    }
+    Ok(())
+}
+
 fn check(
     rt: &impl Abort,
     alloc: Global,
@@ -81,13 +106,9 @@ fn check(
     requires { grammar.now.tokens ≡ 4 }
 {
     let weights = weights_of(alloc, &[1, 1, 1, 1], limit)?;
-    let costs = Costs::new(alloc, grammar, &weights)?;
-    let kinds = Kinds::new(alloc, Embeds::new(alloc, costs)?)?;
+    let kinds = kinds_of(alloc, grammar, &weights)?;
     check_told(rt, &kinds, told);
-    for row in both {
-        check_both(rt, alloc, &kinds, row)?;
-    }
-    Ok(())
+    Ok(check_all_both(rt, alloc, &kinds, both)?)
 }
 
 // e : e '+' t | t ;  t : NUM | '(' e ')' ;  where NUM is 1, '+' 2, '(' 3 and ')' 4.
@@ -210,13 +231,23 @@ fn check_steps(rt: &impl Abort, alloc: Global, kinds: &Kinds) -> Result<(), Allo
     Ok(())
 }
 
+fn check_sums_by(
+    rt: &impl Abort,
+    alloc: Global,
+    grammar: &Grammar,
+    weights: &Weights,
+) -> Result<(), AllocError>
+    requires { length weights.now.numbers ≡ grammar.now.tokens }
+{
+    let kinds = kinds_of(alloc, grammar, weights)?;
+    check_sums_of_costs(rt, &kinds);
+    check_steps(rt, alloc, &kinds)
+}
+
 fn check_sums(rt: &impl Abort, alloc: Global) -> Result<(), SampleError> {
     let grammar = grammar_of_sums(alloc)?;
     let weights = Weights::nodes(alloc, 4)?;
-    let costs = Costs::new(alloc, &grammar, &weights)?;
-    let kinds = Kinds::new(alloc, Embeds::new(alloc, costs)?)?;
-    check_sums_of_costs(rt, &kinds);
-    Ok(check_steps(rt, alloc, &kinds)?)
+    Ok(check_sums_by(rt, alloc, &grammar, &weights)?)
 }
 
 // Each leads from a left side to the last symbol of a right side, and costs the node and the least trees beside it.

@@ -1,11 +1,11 @@
 // Edits, poisoned pairs and negatives. The lists of edits, their results and their counts were worked
 // out by hand from what an edit is; which pairs stand in sentences of the two grammars too.
-ghost use Rattle.std.specs.Prelude.{◌≡◌, ◌↔◌, IsTrue, All};
+ghost use Rattle.std.specs.Prelude.{◌≡◌, ◌↔◌, IsTrue, All, length};
 ghost use Rattle.cs_grammar.specs.Grammar.{IsNumberOf};
 
+use crate::trees::prepared::pairs_of;
 use cs_choices::Operators;
 use cs_grammar::{Grammar, Mark, Symbol, Weights};
-use cs_least::{Costs, Embeds};
 use cs_mutate::Edit::{Delete, Insert, Replace, Swap};
 use cs_mutate::{
     Edit, Edits, Keeper, Negative, Negatives, apply, each_mutant_once, edit_fits, few_kept,
@@ -118,6 +118,18 @@ fn check_case(rt: &impl Abort, alloc: Global, pairs: &Pairs, case: Case) -> Resu
     Ok(())
 }
 
+fn check_each(
+    rt: &impl Abort,
+    alloc: Global,
+    pairs: &Pairs,
+    cases: &[Case],
+) -> Result<(), AllocError> {
+    for case in cases {
+        check_case(rt, alloc, pairs, *case)?;
+    }
+    Ok(())
+}
+
 fn check_cases(
     rt: &impl Abort,
     alloc: Global,
@@ -125,13 +137,8 @@ fn check_cases(
     cases: &[Case],
 ) -> Result<(), AllocError> {
     let weights = Weights::nodes(alloc, grammar.tokens())?;
-    let costs = Costs::new(alloc, grammar, &weights)?;
-    let embeds = Embeds::new(alloc, costs)?;
-    let pairs = Pairs::new(alloc, embeds)?;
-    for case in cases {
-        check_case(rt, alloc, &pairs, *case)?;
-    }
-    Ok(())
+    let pairs = pairs_of(alloc, grammar, &weights)?;
+    check_each(rt, alloc, &pairs, cases)
 }
 
 #[test]
@@ -320,24 +327,45 @@ const COUNTS: [(Option<u16>, usize, usize); 4] = [
     (None, 23, 23),
 ];
 
+fn check_kept(
+    rt: &impl Abort,
+    alloc: Global,
+    pairs: &Pairs,
+    (first, once, again): (Option<u16>, usize, usize),
+) -> Result<(), AllocError> {
+    let mut keeper = Keeper::new(alloc, first, pairs.grammar().tokens())?;
+    let kept = keep(rt, alloc, pairs, THREE.base, &mut keeper)?;
+    let are_kept = first != Some(1) || kept.as_slice() == KEPT.as_slice();
+    assert!(rt; kept.len() == once && are_kept, "{first:?}");
+    let more = keep(rt, alloc, pairs, THREE.base, &mut keeper)?;
+    assert!(rt; more.len() == again, "{first:?}");
+    Ok(())
+}
+
+fn check_counts(rt: &impl Abort, alloc: Global, pairs: &Pairs) -> Result<(), AllocError> {
+    for row in COUNTS {
+        check_kept(rt, alloc, pairs, row)?;
+    }
+    Ok(())
+}
+
+fn check_kept_by(
+    rt: &impl Abort,
+    alloc: Global,
+    grammar: &Grammar,
+    weights: &Weights,
+) -> Result<(), AllocError>
+    requires { length weights.now.numbers ≡ grammar.now.tokens }
+{
+    let pairs = pairs_of(alloc, grammar, weights)?;
+    check_counts(rt, alloc, &pairs)
+}
+
 #[test]
 fn kept_negatives_of_sums(rt: HostRuntime) -> Result<(), Fail> {
-    let alloc = rt.alloc();
-    let sums = grammar_of_sums(alloc)?;
-    let weights = Weights::nodes(alloc, 4)?;
-    let costs = Costs::new(alloc, &sums, &weights)?;
-    let embeds = Embeds::new(alloc, costs)?;
-    let pairs = Pairs::new(alloc, embeds)?;
-    for (first, once, again) in COUNTS {
-        let mut keeper = Keeper::new(alloc, first, pairs.grammar().tokens())?;
-        let kept = keep(&rt, alloc, &pairs, THREE.base, &mut keeper)?;
-        assert!(rt; kept.len() == once, "{first:?}");
-        assert!(rt; first != Some(1) || kept.as_slice() == KEPT.as_slice());
-        assert!(rt;
-            keep(&rt, alloc, &pairs, THREE.base, &mut keeper)?.len() == again,
-            "{first:?}"
-        );
-    }
+    let sums = grammar_of_sums(rt.alloc())?;
+    let weights = Weights::nodes(rt.alloc(), 4)?;
+    check_kept_by(&rt, rt.alloc(), &sums, &weights)?;
     one_list_of_kept();
     few_kept();
     Ok(())

@@ -2,6 +2,7 @@
 
 use crate::workers::meeting::Meeting;
 use crate::workers::two_flags::TwoFlags;
+use cs_fan::Gate;
 use cs_io::MemorySink;
 use cs_run::run;
 use cs_sample_files::{desk, suite_words};
@@ -62,6 +63,21 @@ goal 2 rule 2 size 2 case 2 first 1
 end goals 2 feasible 2 infeasible 0 large 0 negatives 0 cases 2
 ";
 
+// How a run of these words on two files ends, whose workers enter this gate, and what it writes.
+fn ran<R: Threads + Sync, G: Gate + Sync>(
+    rt: &R,
+    alloc: Global,
+    words: &[String],
+    files: (&[u8], &[u8]),
+    gate: &G,
+) -> Result<(u8, MemorySink), AllocError> {
+    let mut desk = desk(alloc, Some(files.0), Some(files.1))?;
+    let mut out = MemorySink::new(alloc, 20_000, 20_000, Vec::new(alloc))?;
+    let mut err = MemorySink::new(alloc, 99, 99, Vec::new(alloc))?;
+    let status = run(rt, alloc, words, &mut desk, &mut out, &mut err, gate);
+    Ok((status, out))
+}
+
 // Whether two workers are at work at once on the suite of `CHOICE` by rules, in this format, and write it.
 fn two_meet<R: Threads + Sync>(
     rt: &R,
@@ -71,10 +87,7 @@ fn two_meet<R: Threads + Sync>(
 ) -> Result<bool, AllocError> {
     let gate = TwoFlags::new();
     let words = suite_words(alloc, &["--mutate=none", "--criteria=rule", format])?;
-    let mut desk = desk(alloc, Some(CHOICE), Some(LETTER_SCANNER))?;
-    let mut out = MemorySink::new(alloc, 1_000, 1_000, Vec::new(alloc))?;
-    let mut err = MemorySink::new(alloc, 99, 99, Vec::new(alloc))?;
-    let status = run(rt, alloc, &words, &mut desk, &mut out, &mut err, &gate);
+    let (status, out) = ran(rt, alloc, &words, (CHOICE, LETTER_SCANNER), &gate)?;
     Ok(status == 0 && gate.have_met() && out.written() == whole)
 }
 
@@ -90,29 +103,22 @@ fn two_goals_meet(rt: HostRuntime) -> Result<(), Fail> {
 // The four goals of sums are one batch, and each has a worker.
 #[test]
 fn four_goals_meet(rt: HostRuntime) -> Result<(), Fail> {
-    let alloc = rt.alloc();
     let gate = Meeting::of(4);
     let options = ["--mutate=none", "--criteria=rule", "--format=1"];
-    let words = suite_words(alloc, &options)?;
-    let mut desk = desk(alloc, Some(SUMS), Some(SCANNER))?;
-    let whole = SUMS_SUITE_ONE.as_bytes();
-    let mut out = MemorySink::new(alloc, whole.len(), 1_000, Vec::new(alloc))?;
-    let mut err = MemorySink::new(alloc, 99, 99, Vec::new(alloc))?;
-    let status = run(&rt, alloc, &words, &mut desk, &mut out, &mut err, &gate);
-    assert!(rt; status == 0 && gate.have_met() && out.written() == whole);
+    let words = suite_words(rt.alloc(), &options)?;
+    let (status, out) = ran(&rt, rt.alloc(), &words, (SUMS, SCANNER), &gate)?;
+    assert!(rt; status == 0 && gate.have_met());
+    assert!(rt; out.written() == SUMS_SUITE_ONE.as_bytes());
     Ok(())
 }
 
 // The chains are one batch, which workers share.
 #[test]
 fn two_chains_meet(rt: HostRuntime) -> Result<(), Fail> {
-    let alloc = rt.alloc();
     let gate = Meeting::of(2);
-    let words = words(alloc, &["chains", "y", "l"])?;
-    let mut desk = desk(alloc, Some(REPEATED), Some(LETTER_SCANNER))?;
-    let mut out = MemorySink::new(alloc, 20_000, 20_000, Vec::new(alloc))?;
-    let mut err = MemorySink::new(alloc, 99, 99, Vec::new(alloc))?;
-    let status = run(&rt, alloc, &words, &mut desk, &mut out, &mut err, &gate);
-    assert!(rt; status == 0 && gate.have_met() && out.written().ends_with(CHAINS_END));
+    let words = words(rt.alloc(), &["chains", "y", "l"])?;
+    let (status, out) = ran(&rt, rt.alloc(), &words, (REPEATED, LETTER_SCANNER), &gate)?;
+    assert!(rt; status == 0 && gate.have_met());
+    assert!(rt; out.written().ends_with(CHAINS_END));
     Ok(())
 }
