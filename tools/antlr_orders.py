@@ -9,7 +9,7 @@ from antlr_patterns import EMPTY, Chars, Either, Often, Row, chars, either, ofte
 
 # A step that the end of the text makes.
 END = "end"
-MOST_STATES, MOST_PARTS = 400, 20000
+MOST_STATES, MOST_PARTS = 400, 4000
 
 
 class TooLarge(Exception):
@@ -204,21 +204,22 @@ def pattern_of(automaton, ends):
     edges.update({(end, "end"): EMPTY for end in ends})
     if begin not in states:
         return None
+    sizes = {edge: parts_of(pattern) for edge, pattern in edges.items()}
     while states:
-        state = min(states, key=lambda each: (cost(edges, each), each))
+        state = min(states, key=lambda each: (cost(sizes, each), each))
         states.remove(state)
-        take_out(edges, state)
+        take_out(edges, sizes, state)
     return edges.get(("begin", "end"))
 
 
-def cost(edges, state):
-    before = [parts_of(pattern) for (source, target), pattern in edges.items() if target == state != source]
-    behind = [parts_of(pattern) for (source, target), pattern in edges.items() if source == state != target]
-    loop = parts_of(edges[state, state]) if (state, state) in edges else 0
-    return sum(before) * len(behind) + sum(behind) * len(before) + loop * len(before) * len(behind)
+def cost(sizes, state):
+    """How much is written where a state is taken out."""
+    before = [size for (source, target), size in sizes.items() if target == state != source]
+    behind = [size for (source, target), size in sizes.items() if source == state != target]
+    return sum(before) * len(behind) + (sum(behind) + sizes.get((state, state), 0) * len(behind)) * len(before)
 
 
-def take_out(edges, state):
+def take_out(edges, sizes, state):
     loop = edges.pop((state, state), None)
     between = EMPTY if loop is None else often(loop, "*")
     before = [(source, edges.pop((source, target))) for source, target in [*edges] if target == state]
@@ -228,5 +229,8 @@ def take_out(edges, state):
             way = row(first, between, last)
             known = edges.get((source, target))
             edges[source, target] = way if known is None else either(known, way)
-            if parts_of(edges[source, target]) > MOST_PARTS:
+            sizes[source, target] = parts_of(edges[source, target])
+            if sizes[source, target] > MOST_PARTS:
                 raise TooLarge
+    for edge in [edge for edge in sizes if state in edge]:
+        del sizes[edge]
