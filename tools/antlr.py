@@ -121,6 +121,7 @@ def tokens(source):
         token = Token(kind, at, text[at:end], source)
         if token.text == ":":
             is_lexer = is_in_lexer_rule(found, is_lexer)
+        is_lexer &= token.text != ";"
         found.append(token)
         at = GAP.match(text, end).end()
     return [*found, Token("end", len(text), "", source)]

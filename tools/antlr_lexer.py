@@ -13,6 +13,7 @@ from bison import Refusal
 SKIPPED, UNKNOWN = None, False
 EMPTY_MATCH = "this rule matches the empty text, where ANTLR's lexer never goes on: let it take a character at least"
 IN_MODES = "conform's scanner has no modes, and takes no token together of several matches: write one rule for the whole token"
+IN_ALTERNATIVES = "commands stand at the end of a rule with one alternative: put its alternatives into parentheses"
 DEFAULT_CHANNELS = ("DEFAULT_TOKEN_CHANNEL", "0")
 
 
@@ -35,6 +36,8 @@ class Lexer:
         self.own_names, self.names, self.definitions = Names(()), {}, {}
         self.scanned = [rule for rule in self.rules.values() if not rule.is_fragment and rule.mode is None]
         self.gives = {rule.name: self.given_by(rule) for rule in self.scanned}
+        for mode, at in {rule.mode.text: rule.mode for rule in self.rules.values() if rule.mode}.items():
+            language.notes.append((at, f"left out: the rules of the mode {mode}, which no rule enters"))
 
     def given(self):
         """The symbols of tokens that the parser gets, in the order of their rules."""
@@ -45,7 +48,7 @@ class Lexer:
         name, is_skipped = rule.name, False
         for alternative in rule.alternatives:
             if alternative.commands and len(rule.alternatives) > 1:
-                raise Refusal(alternative.commands[0].at, "commands stand at the end of a rule with one alternative: put () around its alternatives")
+                raise Refusal(alternative.commands[0].at, IN_ALTERNATIVES)
             for command in alternative.commands:
                 word, argument = command.at.text, command.argument.text if command.argument else None
                 if word in ("more", "mode", "pushMode", "popMode"):
@@ -218,6 +221,9 @@ class Lexer:
             else:
                 found.append(LexRule(pattern, self.gives[rule.name], rule.name))
         is_caseless = self.is_caseless(None)
+        for at in self.language.implicit.values() if is_caseless else ():
+            if at.text.lower() in {spelled.lower() for spelled in self.language.aliases}:
+                raise Refusal(at, "a lexer rule is this literal but for the case of letters: name the rule in its place")
         implicit = [
             LexRule(row(*letters(at, is_caseless)), self.language.symbols[spelled], None)
             for spelled, at in self.language.implicit.items()

@@ -4,7 +4,10 @@ from antlr_rules import Any, Block, Code, Literal, Name, Not, Repeat
 from bison import Refusal
 
 END = "EOF"
-INNER_END = "EOF is read at the end of the start rule alone, and only where no rule uses that: take it out here, since a sentence ends where its text does"
+INNER_END = (
+    "EOF is read at the end of the start rule alone, and only where no rule uses that rule: write what ends with it into the "
+    "start rule"
+)
 
 
 def is_end(element):

@@ -60,7 +60,6 @@ def lex_text(lexer, rules, whence):
 
 def files(conversion, lexer, start, whence):
     """Both files, and what is to be told of the whole."""
-    names = conversion.names
     rules = lexer.lex_rules()
     given = lexer.given()
     unused = [symbol for symbol in given if symbol not in conversion.used]
@@ -72,5 +71,4 @@ def files(conversion, lexer, start, whence):
         told.append(f"no rule gives these tokens, so sentences with them have no text: {names_words(missing)}")
     if conversion.left_out():
         told.append(f"left out: {start} leads to none of these rules: {names_words(conversion.left_out())}")
-    yacc = yacc_text(conversion, start, tokens, unused, whence)
-    return yacc, lex_text(lexer, rules, whence), told, names
+    return yacc_text(conversion, start, tokens, unused, whence), lex_text(lexer, rules, whence), told
