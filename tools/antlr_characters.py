@@ -3,7 +3,7 @@
 import re
 
 from antlr_patterns import chars, others
-from antlr_rules import Any, Literal, Members, Range
+from antlr_trees import Any, Literal, Members, Range
 from bison import Refusal
 
 PIECE = re.compile(r"\\u(?P<four>[0-9A-Fa-f]{4})|\\u\{(?P<any>[0-9A-Fa-f]{1,6})\}|\\(?P<letter>[^u])|(?P<plain>[^\\])", re.S)
@@ -92,7 +92,7 @@ def both_cases(first, last, token):
     has_letters = last >= 0x80 or any(each in inside for some in letters for each in some)
     is_alone = first == last and not chr(first).lower() != chr(first).upper()
     if has_letters and not is_alone:
-        raise Refusal(token, "caseInsensitive is read of ranges between two letters of one case, without others: write them out")
+        raise Refusal(token, "caseInsensitive is read of ranges between two letters of one case: write this range out")
     return [(first, last)]
 
 

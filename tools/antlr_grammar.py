@@ -5,12 +5,15 @@ import re
 
 from antlr import Source
 from antlr_names import Names
-from antlr_rules import Block, Code, Literal, Name, Not, Repeat, read
+from antlr_rules import read
+from antlr_trees import Block, Code, Literal, Name, Not, Repeat
 from bison import Refusal
 
 # What code of a lexer names where it changes what is scanned.
-CHANGING = re.compile(r"\b(?:nextToken|emit\w*|skip|more|recover|notifyListeners|match\w*|setType|_?type|_?channel|setChannel|"
-                      r"_?mode|pushMode|popMode|setInputStream|getInterpreter|_?interp|reset|Override|override)\b")
+CHANGING = re.compile(
+    r"\b(?:nextToken|emit\w*|skip|more|recover|notifyListeners|match\w*|setType|_?type|_?channel|setChannel|_?mode|pushMode"
+    r"|popMode|setInputStream|getInterpreter|_?interp|reset|[Oo]verride)\b"
+)
 
 
 def load(name):
@@ -94,7 +97,7 @@ class Language:
     def check(self):
         """Refuses grammars that ANTLR wouldn't take in this place, and code that may change what is scanned."""
         if not self.rules:
-            raise Refusal(self.parser.at, "this grammar has no parser rules: name the parser's grammar first, then the lexer's")
+            raise Refusal(self.parser.at, "this grammar has no parser rules: name the parser's grammar too")
         if not self.is_combined:
             self.check_pair()
         elif "tokenVocab" in self.parser.options:
@@ -112,11 +115,11 @@ class Language:
                 raise Refusal(rule.at, "a parser grammar has no lexer rules: move this one to the lexer's grammar")
         for rule in self.lexer.rules:
             if rule.at.is_rule_name:
-                raise Refusal(rule.at, "a lexer grammar has no parser rules: begin the name of a lexer rule with a capital letter")
+                raise Refusal(rule.at, "a lexer grammar has no parser rules: begin this name with a capital letter")
         vocabulary = self.parser.options.get("tokenVocab")
         if vocabulary is None or vocabulary.text.strip("'") != self.lexer.at.text:
             at = vocabulary or self.parser.at
-            raise Refusal(at, f"the parser's tokenVocab isn't {self.lexer.at.text}, the lexer that was named: name the other one")
+            raise Refusal(at, f"the parser's tokenVocab isn't {self.lexer.at.text}, the lexer that was named: name that one")
 
     def code(self, at, what):
         """Refuses code, or tells that it is ignored."""

@@ -7,12 +7,13 @@ from antlr_grammar import elements_of
 from antlr_names import Names, plain
 from antlr_orders import END, Automaton, Lists, TooLarge, Ways, pattern_of
 from antlr_patterns import EMPTY, NOTHING, Either, Named, Often, Row, either, often, row
-from antlr_rules import Block, Code, Literal, Name, Repeat
+from antlr_trees import Block, Code, Literal, Name, Repeat
 from bison import Refusal
 
 SKIPPED, UNKNOWN = None, False
 EMPTY_MATCH = "this rule matches the empty text, where ANTLR's lexer never goes on: let it take a character at least"
-IN_MODES = "conform's scanner has no modes, and takes no token together of several matches: write one rule for the whole token"
+IN_MODES = "conform's scanner has no modes, and makes no token of several matches: write one rule for the whole token"
+TOO_LARGE = "this rule's loops that aren't greedy make too large a pattern: write it with greedy loops"
 IN_ALTERNATIVES = "commands stand at the end of a rule with one alternative: put its alternatives into parentheses"
 DEFAULT_CHANNELS = ("DEFAULT_TOKEN_CHANNEL", "0")
 
@@ -24,6 +25,12 @@ class LexRule:
     pattern: object
     gives: object
     name: str
+
+
+def is_ordered(element):
+    """Whether it is a loop that isn't greedy, or the end of the text."""
+    is_lazy = isinstance(element, Repeat) and not element.is_greedy
+    return is_lazy or (isinstance(element, Name) and element.at.text == "EOF")
 
 
 class Lexer:
@@ -102,9 +109,8 @@ class Lexer:
             if name in seen:
                 continue
             seen.add(name)
-            for element in elements_of(self.rules[name]):
-                if isinstance(element, Repeat) and not element.is_greedy or isinstance(element, Name) and element.at.text == "EOF":
-                    return True
+            if any(map(is_ordered, elements_of(self.rules[name]))):
+                return True
             waiting += [each.text for each in self.refers[name]]
         return False
 
@@ -119,10 +125,11 @@ class Lexer:
         return self.of_alternatives(rule.alternatives, self.is_caseless(rule))
 
     def of_alternatives(self, alternatives, is_caseless):
-        rows = [[self.of_element(each, is_caseless) for each in one.elements if not isinstance(each, Code)] for one in alternatives]
-        return either(*(row(*parts) for parts in rows))
+        return either(*(row(*(self.of_element(each, is_caseless) for each in one.elements)) for one in alternatives))
 
     def of_element(self, element, is_caseless):
+        if isinstance(element, Code):
+            return EMPTY
         if isinstance(element, Literal):
             return row(*letters(element.at, is_caseless))
         if isinstance(element, Block):
@@ -194,7 +201,7 @@ class Lexer:
             automaton = Automaton(Lists(ways, begin, self.lay(ways, rule)(begin)))
             found = [pattern_of(automaton, ends) for ends in (automaton.ends, automaton.ends_with_text)]
         except TooLarge:
-            raise Refusal(rule.at, "this rule's loops that aren't greedy make too large a pattern: write it with greedy loops") from None
+            raise Refusal(rule.at, TOO_LARGE) from None
         if 0 in automaton.ends | automaton.ends_with_text:
             self.check_empty(rule)
         return found
@@ -215,7 +222,8 @@ class Lexer:
                 self.check_empty(rule)
             if at_end not in (None, EMPTY):
                 at_ends.append(LexRule(at_end, UNKNOWN, rule.name))
-                self.language.notes.append((rule.at, f"{rule.name} may take the end of the text along: such a match is in no text"))
+                message = f"{rule.name} may take the end of the text along: such a match is in no text"
+                self.language.notes.append((rule.at, message))
             if pattern in (None, NOTHING, EMPTY):
                 self.language.notes.append((rule.at, f"left out: {rule.name} matches no text that has a character"))
             else:

@@ -17,8 +17,11 @@ LONGEST, MOST_JOINED = 40, 4
 
 def word(text):
     """A text as a word of small letters, digits and _."""
-    parts = [part.lower() if part.isascii() and part.isalnum() else MARKS.get(part) or f"u{ord(part):04x}" for part in PART.findall(text)]
-    return "_".join(parts)[:LONGEST].rstrip("_")
+    return "_".join(map(part_word, PART.findall(text)))[:LONGEST].rstrip("_")
+
+
+def part_word(part):
+    return part.lower() if part.isascii() and part.isalnum() else MARKS.get(part) or f"u{ord(part):04x}"
 
 
 def plain(name):
@@ -53,7 +56,8 @@ class Names:
         if len(text) == 1 and 0 < ord(text) < 0x7F:
             symbol = "'%s'" % (ESCAPES.get(text) or (text if text.isprintable() else f"\\x{ord(text):02x}"))
         else:
-            symbol = self.new(("" if text[0].isalpha() and text[0].isascii() else "LITERAL_" if text[0].isdigit() else "") + word(text).upper())
+            spelled = word(text).upper()
+            symbol = self.new(f"LITERAL_{spelled}" if spelled[0].isdigit() else spelled)
         self.words[symbol] = word(text)
         return symbol
 

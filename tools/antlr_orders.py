@@ -124,9 +124,8 @@ class Lists:
 
 def classes(ways):
     """The characters in sets of which each step has all or none."""
-    edges = {edge for steps in ways.steps for some, _ in steps if some != END for low, high in some.ranges for edge in (low, high + 1)}
-    ordered, found = sorted(edges), {}
     sets = list({some for steps in ways.steps for some, _ in steps if some != END})
+    ordered, found = sorted({edge for some in sets for low, high in some.ranges for edge in (low, high + 1)}), {}
     for first, behind in zip(ordered, ordered[1:]):
         of = tuple(any(low <= first <= high for low, high in some.ranges) for some in sets)
         if any(of):

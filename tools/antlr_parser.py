@@ -1,6 +1,6 @@
 """The parser rules of ANTLR 4 as rules of a yacc file: alternatives of symbols, without blocks and repetitions."""
 
-from antlr_rules import Any, Block, Code, Literal, Name, Not, Repeat
+from antlr_trees import Any, Block, Code, Literal, Name, Not, Repeat
 from bison import Refusal
 
 END = "EOF"

@@ -1,99 +1,16 @@
-"""The rules of ANTLR 4's grammar files, as trees: `read` gives a grammar of a file's tokens."""
+"""Reads the grammar files of ANTLR 4: `read` gives the grammar of a file."""
 
-from typing import NamedTuple
-
-from antlr import Token, tokens
+from antlr import tokens
+from antlr_trees import Alternative, Any, Block, Code, Command, Grammar, Literal, Members, Name, Not, Range, Repeat, Rule
 from bison import Refusal
 
-
-class Name(NamedTuple):
-    """A rule, a token or the end of the text; the name is the text of its place."""
-
-    at: Token
-
-
-class Literal(NamedTuple):
-    """A text in single quotes, as it is spelled."""
-
-    at: Token
-
-
-class Range(NamedTuple):
-    """The characters between two literals."""
-
-    at: Token
-    last: Token
-
-
-class Members(NamedTuple):
-    """A set of characters in brackets, as it is spelled."""
-
-    at: Token
-
-
-class Any(NamedTuple):
-    """A dot."""
-
-    at: Token
-
-
-class Not(NamedTuple):
-    """What is none of these."""
-
-    at: Token
-    parts: tuple
-
-
-class Block(NamedTuple):
-    """Alternatives in parentheses."""
-
-    at: Token
-    alternatives: tuple
-
-
-class Repeat(NamedTuple):
-    """A part with one of the signs `?`, `*` and `+` behind it."""
-
-    at: Token
-    part: object
-    sign: str
-    is_greedy: bool
-
-
-class Code(NamedTuple):
-    """An action or a predicate, by the kind of its place."""
-
-    at: Token
-
-
-class Command(NamedTuple):
-    """What stands behind `->`: a name, and perhaps an argument."""
-
-    at: Token
-    argument: object
-
-
-class Alternative(NamedTuple):
-    at: Token
-    elements: tuple
-    commands: tuple
-
-
-class Rule(NamedTuple):
-    at: Token
-    is_fragment: bool
-    mode: object
-    options: dict
-    alternatives: tuple
-
-    @property
-    def name(self):
-        return self.at.text
+OPTIONS_OF_BLOCK = "options and actions of a block: take them out, and write `*?` for a loop that isn't greedy"
+NO_ELEMENT = "nothing of an alternative begins so: look for a ; or a quote that is missing before it"
+BEHIND_TILDE = "behind ~ stands a token, a literal, a range or a set, or some of these in parentheses with | between them"
 
 
 class Draft:
     """Alternatives on the way: those that are over, and the elements and commands of the open one."""
-
     def __init__(self, at):
         self.at, self.begin, self.alternatives, self.elements, self.commands = at, at, [], [], ()
 
@@ -104,16 +21,6 @@ class Draft:
     def closed(self):
         self.end_alternative(None)
         return tuple(self.alternatives)
-
-
-class Grammar:
-    """A file's grammar. The kind is combined, parser or lexer."""
-
-    def __init__(self, source):
-        self.source, self.kind, self.at = source, "combined", None
-        # The options by name, the tokens of imports and of lists, and named actions with their scopes.
-        self.options, self.imports, self.tokens, self.codes = {}, [], [], []
-        self.rules = []
 
 
 class Reader:
@@ -283,7 +190,7 @@ class Reader:
     def block_begin(self):
         token = self.next()
         if self.here.kind == "list" or self.has("@"):
-            raise Refusal(self.here, "options and actions of a block: take them out, and write `*?` for a loop that isn't greedy")
+            raise Refusal(self.here, OPTIONS_OF_BLOCK)
         return token
 
     def element(self, draft, is_lexer, token):
@@ -318,7 +225,7 @@ class Reader:
             if self.here.kind == "argument" and not is_lexer:
                 self.next()
             return Name(token)
-        return self.character_atom("nothing of an alternative begins so: look for a ; or a quote that is missing before it")
+        return self.character_atom(NO_ELEMENT)
 
     def character_atom(self, message):
         """A literal, a range or a set in brackets."""
@@ -336,16 +243,15 @@ class Reader:
         """`~` and one part, or some in parentheses."""
         tilde, parts = self.next(), []
         is_many = self.has("(")
-        message = "behind ~ stands a token, a literal, a range or a set, or some of these in parentheses with | between them"
         while True:
             self.place += is_many
-            parts.append(Name(self.next()) if self.here.is_token_name else self.character_atom(message))
+            parts.append(Name(self.next()) if self.here.is_token_name else self.character_atom(BEHIND_TILDE))
             while self.has("<"):
                 self.pass_options()
             if not (is_many and self.has("|")):
                 break
         if is_many:
-            self.take(")", message)
+            self.take(")", BEHIND_TILDE)
         return Not(tilde, tuple(parts))
 
     def repeated(self, part):
