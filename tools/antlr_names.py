@@ -66,4 +66,7 @@ class Names:
         symbols = [symbol for alternative in alternatives for symbol in alternative]
         described = "_or_".join("_".join(self.words.get(symbol, symbol) for symbol in one) for one in alternatives)
         is_few = 0 < len(symbols) <= MOST_JOINED and all(alternatives) and len(described) <= LONGEST
-        return self.new((described if is_few else f"{rule}_part") + suffix), is_few
+        base = described if is_few else f"{rule}_part"
+        name = self.new(base + suffix)
+        self.words[name] = base if suffix else name
+        return name, is_few
