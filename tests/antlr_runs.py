@@ -70,7 +70,7 @@ FILES = [
             "not_never : IF | BEGIN | ODD",
         ],
         None,
-        ["the start rule is error: it doesn't end with EOF", "left out: error leads to none of these rules: other\n"],
+        ["the start rule is error: it need not end with EOF", "left out: error leads to none of these rules: other\n"],
     ),
     (
         "grammar G;\nfirst : A ;\nlast : first ('b' first | 'c' 'd' 'e' 'f' 'g')+ EOF? | ;\n"
@@ -84,7 +84,30 @@ FILES = [
             "unused_token : UNUSED",
         ],
         None,
-        ["G.g4:3:1: the start rule is last\n"],
+        ["G.g4:3:1: the start rule is last: it need not end with EOF"],
+    ),
+    # EOF within rules.
+    (
+        "grammar G; s : t* EOF ; t : 'a' e ; e : ';' | EOF ;",
+        (),
+        [
+            "s : t_list_opt_end | t_list_opt",
+            "t_list_opt : %empty | t_list_opt t",
+            "t_list_opt_end : t_list_opt t_end",
+            "t : 'a' e",
+            "t_end : 'a' e_end",
+            "e : ';'",
+            "e_end : %empty",
+        ],
+        None,
+        ["the start rule is s\n"],
+    ),
+    (
+        "grammar G; s : '(' s ')' | 'a' EOF | 'b' EOF+ 'c' | 'd' (EOF | EOF EOF)? ;",
+        (),
+        ["s_text : s | s_end", "s : '(' s ')' | 'd'", "s_end : 'a'", "unused_token : 'b' | 'c'"],
+        None,
+        ["it need not end with EOF"],
     ),
     (
         "grammar G;\ns : { a }  b | {x}? {'}'} ;\nb : 'b' ;\n",
@@ -158,8 +181,7 @@ REFUSED = [
     ("grammar «G; A : 'a' ;", "this grammar has no parser rules"),
     ("lexer grammar «G; A : 'a' ;", "name one combined grammar"),
     ("grammar G; options { tokenVocab = «L; } s : A ;", "a combined grammar has its own tokens"),
-    ("grammar G; s : t EOF ; t : 'a' «EOF | 'b' ;", "EOF is read at the end of the start rule alone"),
-    ("grammar G; s : '(' s ')' | 'a' «EOF ;", "EOF is read at the end of the start rule alone"),
+    ("grammar G; «s : EOF 'a' ;", "s has no sentence"),
     ("grammar G; s : «{ok()}? 'a' ;", "a predicate may refuse sentences"),
     ("grammar G; s : «'a'..'c' ;", "a parser rule has no characters"),
     ("grammar G; s : A ; A : 'a' «{ skip(); } ;", "an action of a lexer rule"),

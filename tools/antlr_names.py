@@ -34,7 +34,7 @@ class Names:
 
     def __init__(self, rules):
         # `error` is a token of every yacc file.
-        self.taken, self.words = {"error"}, {}
+        self.taken, self.words = {"error"}, {"EOF": "eof"}
         self.of_rules = {name: self.new(plain(name)) for name in rules}
 
     def new(self, name):

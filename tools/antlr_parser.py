@@ -1,13 +1,8 @@
 """The parser rules of ANTLR 4 as rules of a yacc file: alternatives of symbols, without blocks and repetitions."""
 
+from antlr_ends import END, without_ends
 from antlr_trees import Any, Block, Code, Literal, Name, Not, Repeat
 from bison import Refusal
-
-END = "EOF"
-INNER_END = (
-    "EOF is read at the end of the start rule alone, and only where no rule uses that rule: write what ends with it into the "
-    "start rule"
-)
 
 
 def is_end(element):
@@ -49,16 +44,18 @@ class Conversion:
 
     def __init__(self, language, start, given):
         self.language, self.names, self.given = language, language.names, given
-        self.ends = {*last_ends(start.alternatives)}
-        # The rules by name, as lists of left sides and alternatives; those that are waited for, and who uses which.
-        self.found, self.waiting, self.uses = {}, [start], {}
+        # The rules by name, as lists of left sides and alternatives, and those that are waited for.
+        self.found, self.waiting = {}, [start]
         self.rule, self.written, self.known = None, None, {}
-        # The symbols of tokens that stand in rules.
-        self.used = {}
         while self.waiting:
             self.convert(self.waiting.pop())
-        if self.ends and start.name in self.uses:
-            raise Refusal(min(self.ends, key=lambda at: at.at), INNER_END)
+        rules = dict(entry for name in language.rules if name in self.found for entry in self.found[name])
+        self.start, self.rules, self.is_ended = without_ends(rules, self.names.of_rules[start.name], self.names)
+        if not self.rules:
+            raise Refusal(start.at, f"{start.name} has no sentence: EOF stands before what has to follow")
+        symbols = (symbol for alternatives in self.rules.values() for each in alternatives for symbol in each)
+        # The symbols of tokens that stand in rules.
+        self.used = dict.fromkeys(symbol for symbol in symbols if symbol not in self.rules)
 
     def convert(self, rule):
         if rule.name in self.found:
@@ -67,10 +64,6 @@ class Conversion:
         self.found[rule.name] = self.written
         own = self.alternatives(rule.alternatives)
         self.written.insert(0, (self.names.of_rules[rule.name], own))
-
-    def in_order(self):
-        """What is written, in the order of the grammar's rules."""
-        return [entry for name in self.language.rules if name in self.found for entry in self.found[name]]
 
     def left_out(self):
         return [name for name in self.language.rules if name not in self.found]
@@ -98,7 +91,7 @@ class Conversion:
         if isinstance(element, Name):
             return self.name(element.at)
         if isinstance(element, Literal):
-            return (self.token(element.at),)
+            return (self.language.symbol(element.at),)
         if isinstance(element, (Any, Not)):
             return (self.some_tokens(element),)
         if isinstance(element, Block):
@@ -110,21 +103,13 @@ class Conversion:
 
     def name(self, at):
         if at.text == END:
-            if at not in self.ends:
-                raise Refusal(at, INNER_END)
-            return ()
+            return (END,)
         if at.is_token_name:
-            return (self.token(at),)
+            return (self.language.symbol(at),)
         if at.text not in self.language.rules:
             raise Refusal(at, f"no rule is {at.text}: write it, or look at its spelling")
-        self.uses[at.text] = True
         self.waiting.append(self.language.rules[at.text])
         return (self.names.of_rules[at.text],)
-
-    def token(self, at):
-        symbol = self.language.symbol(at)
-        self.used[symbol] = True
-        return symbol
 
     # New nonterminals
 
@@ -145,8 +130,9 @@ class Conversion:
     def repeated(self, element):
         inner = element.part
         found = self.alternatives(inner.alternatives) if isinstance(inner, Block) else [self.symbols(inner)]
-        if found == [()]:
-            return ()
+        if all(symbol == END for alternative in found for symbol in alternative):
+            # To take the end of the text or not leads to the same sentences.
+            return (END,) if element.sign == "+" and () not in found else ()
         if element.sign == "?":
             return (self.part(found, "_opt", lambda left: [(), *found]),)
         item = found[0] if len(found) == 1 else (self.part(found),)
@@ -167,6 +153,5 @@ class Conversion:
             some = [symbol for symbol in self.given if symbol not in without]
             if not some:
                 raise Refusal(element.at, "no token is left here that the lexer gives: take this out")
-            self.used.update(dict.fromkeys(some, True))
             self.known["~", without] = self.add(left, [(symbol,) for symbol in some])
         return self.known["~", without]

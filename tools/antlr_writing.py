@@ -31,8 +31,8 @@ def yacc_text(conversion, start, tokens, unused, whence):
     lines = [f"/* The sentences of the rule {start} of {whence}, by from_antlr. */"]
     if tokens:
         lines.append(wrapped("%token", tokens))
-    lines += [f"%start {conversion.names.of_rules[start]}", "%%"]
-    rules = [rule_text(*each) for each in conversion.in_order()]
+    lines += [f"%start {conversion.start}", "%%"]
+    rules = [rule_text(*each) for each in conversion.rules.items()]
     if unused:
         rules.append("/* Tokens that stand in no sentence. */\n")
         rules.append(rule_text(conversion.names.new("unused_token"), [(symbol,) for symbol in unused]))
