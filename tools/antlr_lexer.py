@@ -20,11 +20,10 @@ DEFAULT_CHANNELS = ("DEFAULT_TOKEN_CHANNEL", "0")
 
 @dataclass
 class LexRule:
-    """A rule of the lex file: its pattern, the symbol that it gives, SKIPPED or UNKNOWN, and whence it comes."""
+    """A rule of the lex file: its pattern, and the symbol that it gives, SKIPPED or UNKNOWN."""
 
     pattern: object
     gives: object
-    name: str
 
 
 def is_ordered(element):
@@ -38,7 +37,8 @@ class Lexer:
 
     def __init__(self, language):
         self.language, self.rules = language, language.lexer_rules
-        self.texts, self.refers, self.is_ordered = {}, {}, {}
+        # The places where each rule that was looked at names others.
+        self.refers = {}
         # Definitions by the names of their rules: the names in the lex file, and the patterns.
         self.own_names, self.names, self.definitions = Names(()), {}, {}
         self.scanned = [rule for rule in self.rules.values() if not rule.is_fragment and rule.mode is None]
@@ -221,19 +221,19 @@ class Lexer:
             if pattern and self.is_empty(pattern):
                 self.check_empty(rule)
             if at_end not in (None, EMPTY):
-                at_ends.append(LexRule(at_end, UNKNOWN, rule.name))
+                at_ends.append(LexRule(at_end, UNKNOWN))
                 message = f"{rule.name} may take the end of the text along: such a match is in no text"
                 self.language.notes.append((rule.at, message))
             if pattern in (None, NOTHING, EMPTY):
                 self.language.notes.append((rule.at, f"left out: {rule.name} matches no text that has a character"))
             else:
-                found.append(LexRule(pattern, self.gives[rule.name], rule.name))
+                found.append(LexRule(pattern, self.gives[rule.name]))
         is_caseless = self.is_caseless(None)
         for at in self.language.implicit.values() if is_caseless else ():
             if at.text.lower() in {spelled.lower() for spelled in self.language.aliases}:
                 raise Refusal(at, "a lexer rule is this literal but for the case of letters: name the rule in its place")
         implicit = [
-            LexRule(row(*letters(at, is_caseless)), self.language.symbols[spelled], None)
+            LexRule(row(*letters(at, is_caseless)), self.language.symbols[spelled])
             for spelled, at in self.language.implicit.items()
         ]
         return at_ends + implicit + found
