@@ -21,7 +21,7 @@ class Ends:
 
     def __init__(self, rules, names):
         self.rules = rules
-        self.silent = grown(rules, lambda each, found: all(symbol == END or symbol in found for symbol in each))
+        self.silent = silent_in(rules)
         self.ending = grown(rules, lambda each, found: any(symbol == END or symbol in found for symbol in each))
         self.names = {left: names.new(f"{left}_end") for left in rules if left in self.ending}
 
@@ -48,6 +48,36 @@ class Ends:
             if left in self.names:
                 found[self.names[left]] = [form for each in alternatives for form in self.ended(each)]
         return without_empty(found)
+
+
+def silent_in(rules):
+    """The nonterminals that may lead to nothing, or to EOF alone."""
+    return grown(rules, lambda each, found: all(symbol == END or symbol in found for symbol in each))
+
+
+def endless(rules):
+    """A nonterminal that may take EOF again and again before or behind itself, where ANTLR's parser never ends; or None."""
+    silent, leads = silent_in(rules), {left: set() for left in rules}
+
+    def is_silent(part):
+        return all(symbol == END or symbol in silent for symbol in part)
+
+    pure = grown(rules, lambda each, found: is_silent(each) and any(symbol == END or symbol in found for symbol in each))
+    behind = []
+    for left, alternatives in rules.items():
+        for each in alternatives:
+            if each[:1] == (left,) and is_silent(each[1:]) and any(symbol == END or symbol in pure for symbol in each[1:]):
+                return left
+            for place, symbol in enumerate(each):
+                if symbol in rules and is_silent(each[:place]):
+                    leads[left].add(symbol)
+                    behind += [(left, symbol)] if any(one == END or one in pure for one in each[:place]) else []
+    return next((left for left, symbol in behind if left in reached(leads_of(leads), symbol)), None)
+
+
+def leads_of(leads):
+    """What leads where, in the form of rules."""
+    return {left: [tuple(targets)] for left, targets in leads.items()}
 
 
 def without_empty(rules):

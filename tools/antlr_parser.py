@@ -1,8 +1,10 @@
 """The parser rules of ANTLR 4 as rules of a yacc file: alternatives of symbols, without blocks and repetitions."""
 
-from antlr_ends import END, without_ends
+from antlr_ends import END, endless, without_ends
 from antlr_trees import Any, Block, Code, Literal, Name, Not, Repeat
 from bison import Refusal
+
+ENDLESS = "may take EOF again and again, where ANTLR's parser never ends: let what is repeated take a token"
 
 
 def is_end(element):
@@ -50,12 +52,19 @@ class Conversion:
         while self.waiting:
             self.convert(self.waiting.pop())
         rules = dict(entry for name in language.rules if name in self.found for entry in self.found[name])
+        self.check_endless(rules)
         self.start, self.rules, self.is_ended = without_ends(rules, self.names.of_rules[start.name], self.names)
         if not self.rules:
             raise Refusal(start.at, f"{start.name} has no sentence: EOF stands before what has to follow")
         symbols = (symbol for alternatives in self.rules.values() for each in alternatives for symbol in each)
         # The symbols of tokens that stand in rules.
         self.used = dict.fromkeys(symbol for symbol in symbols if symbol not in self.rules)
+
+    def check_endless(self, rules):
+        left = endless(rules)
+        for name, entries in self.found.items():
+            if left in dict(entries):
+                raise Refusal(self.language.rules[name].at, f"{name} {ENDLESS}")
 
     def convert(self, rule):
         if rule.name in self.found:
