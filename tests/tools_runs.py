@@ -164,6 +164,7 @@ PLACES = [
     ("%%\ns : 'x'\n«#ifdef Y\n | 'y'\n#endif\n ;", "BadItem", "a line for a preprocessor"),
     ("%%\ns : /* é */ «é ;", "BadItem", "names and literals hold ASCII alone"),
     ("«%define x\n%%\ns : ;", "UnknownDirective", "this is GNU Bison's, and tools/from_bison g.y > plain.y"),
+    ("/* s */ grammar S;\ns : A EOF ;\nA : «[a-z]+ ;", "BadItem", "this is a grammar of ANTLR's: tools/from_antlr g.y plain.y plain.l"),
     ("«%tokens A\n%%\ns : ;", "UnknownDirective", "%token may be meant"),
     ("%start s\n«%start t\n%%\ns : ;", "SecondStart", "the first stands at line 1, column 1"),
     ("%token A\n%left s\n%%\n«s : ;", "TokenOnLeft", "it is declared at line 2, column 7"),

@@ -8,6 +8,9 @@ import plain
 from bison import PREPROCESSOR, TEMPLATE, WORDS
 from places import place
 
+# How a grammar of ANTLR begins.
+ANTLR = re.compile(rb"(?:\s|//[^\n]*|/\*.*?\*/)*(?:(?:lexer|parser)\s+)?grammar\s+\w+\s*;", re.S)
+OF_ANTLR = "this is a grammar of ANTLR's: tools/from_antlr FILE plain.y plain.l writes both files"
 CONVERT = "this is GNU Bison's, and tools/from_bison FILE > plain.y takes it out or says what to do"
 EXPECTED = {
     "start": "behind %start comes a nonterminal's name",
@@ -179,9 +182,16 @@ HINTS = {
 }
 
 
+def is_antlr(text):
+    """Whether a file begins as a grammar of ANTLR does."""
+    return ANTLR.match(text) is not None
+
+
 def hint(key, text, at):
     if key.startswith("lex: "):
         return lex_hints.hint(key, text, at)
+    if is_antlr(text):
+        return OF_ANTLR
     return HINTS[key](text, at, plain.read_items(text)[0]) if key in HINTS else None
 
 

@@ -9,6 +9,7 @@ import sys
 from concurrent.futures import ThreadPoolExecutor
 
 import bison_plain
+import hints
 
 HERE = os.path.dirname(os.path.abspath(__file__))
 USAGE = 2
@@ -68,6 +69,8 @@ class Maker:
         has_ends = status == 0 and bison_plain.has_ends(text_of(self.grammar))
         if status != 1 and not has_ends:
             return
+        if hints.is_antlr(text_of(self.grammar)):
+            self.refuse(["rules", self.grammar])
         plain = self.path("grammar.y")
         converted, why = ran([sys.executable, os.path.join(HERE, "from_bison"), self.grammar], plain)
         if converted and has_ends:
