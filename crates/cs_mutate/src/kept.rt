@@ -55,6 +55,7 @@ impl Keeper {
 
     /// Takes the edits of a search away up to the first negative that is kept. None where each edit that is left is harmless or
     /// has a negative that isn't kept; then none is left. Want of memory alone is an error.
+    #[inline(always)]
     pub fn next(&mut self, search: &mut Negatives<'_>) -> Result<Option<Negative>, AllocError>
         requires tokens { search.old.grammar.tokens ≡ self.old.tokens }
         ensures first { self.new.first ≡ self.old.first }

@@ -78,6 +78,7 @@ impl<'p> Negatives<'p> {
 
     /// Takes the edits away up to the first negative. None where each edit that is left is harmless; then none is left, and
     /// there is none from then on. After a refusal, which is want of memory, all are left.
+    #[inline(always)]
     pub fn next(&mut self) -> Result<Option<Negative>, AllocError>
         ensures found { IfOk result (λ found. FindsNext self.old found self.new) }
         ensures fits { IfOk result (λ found. IfSome found (λ n. FitsBase self.old n.edit)) }
@@ -145,6 +146,7 @@ fn next_touched(pairs: &Pairs, base: &[u16], edits: &mut Edits) -> Option<Negati
 }
 
 // The same of any list, whose edited lists are read whole.
+#[inline(never)]
 fn next_whole(
     alloc: Global,
     pairs: &Pairs,

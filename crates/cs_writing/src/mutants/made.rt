@@ -83,6 +83,7 @@ impl<'m> MadeNegative<'m> {
     }
 
     /// Makes a negative of the base in place of what was made. Want of memory alone is an error, and then nothing is made.
+    #[inline(always)]
     pub fn make(&mut self, negative: &Negative) -> Result<(), AllocError>
         requires placed { IsPlaced (length self.old.making.base) negative.now.edit }
         requires taken { TakesEdited self.old.making negative.now.edit }
