@@ -99,6 +99,11 @@ FILES = [
     ),
     ("%%\na %{\n  if (x) { }\n%}\n  /* c */ code\n", "%%\na %{\n  if (x) { }\n%}\n  /* c */ code\n", []),
     (
+        "%%\na %{\n#ifdef X\n  NEXT\n#endif\n%}\n",
+        "%%\na /*@token not.a.token*/ %{\n#ifdef X\n  NEXT\n#endif\n%}\n",
+        ["2:1: kept, but in no text: a comment can say what its action gives, or name the file that defines NEXT by --header: "],
+    ),
+    (
         "%x A B\n%%\n<A>{\n<B>b ;\n<INITIAL>{ // x\nc ;\n<B>d ;\n}\n<*>e ;\n}\nf\n",
         "\n%%\n\n\n\nc ;\nd ;\n\ne ;\n\nf\n",
         ["4:4: left out: the start condition <A,B>: b ;"],
@@ -200,12 +205,12 @@ WITH_MACROS = [
     ("{ GIVE (',') }", "/*@token ','*/ { GIVE (',') }", ""),
     ("return KIND(B);", "/*@token T_B*/ return KIND(B);", ""),
     ("AGAIN;", "/*@token not.a.token*/ AGAIN;", "kept, but in no text: a comment can say what its action gives: "),
-    ('TRACE("return");', 'TRACE("return");', ""),
+    ('TRACE("return");', 'TRACE("return");', "read as giving no token, though what they call isn't in sight: say, line 20: "),
     ("MAYBE(A);", "/*@token not.a.token*/ MAYBE(A);", "kept, but in no text: a comment can say what its action gives: "),
     ("{ if (x) GIVE(A); GIVE(B); }", "/*@token not.a.token*/ { if (x) GIVE(A); GIVE(B); }", "kept, but in no text: a comment "
      "can say what its action gives, as /*@token B*/: "),
     ("GIVE", "GIVE", ""),
-    ("NOTE;", "NOTE;", ""),
+    ("NOTE;", "/*@token not.a.token*/ NOTE;", "kept, but in no text: "),
     ("INDENTED(A);", "/*@token A*/ INDENTED(A);", ""),
     ("return BYTE;", "return yytext[0];", ""),
     ("GIVE(BYTE);", "/*@token not.a.token*/ GIVE(BYTE);", "kept, but in no text: "),
@@ -217,6 +222,62 @@ WITH_MACROS = [
     ("{ return yylval.i = '+'; }", "/*@token '+'*/ { return yylval.i = '+'; }", ""),
     ("{ return yylval.i = '='; }", "/*@token '='*/ { return yylval.i = '='; }", ""),
     ("return (int) (unsigned char) *yytext;", "return                       *yytext;", ""),
+]
+# A file with some of the names that the actions below use, and a header with others; yacc wrote the number.
+SEEN = """%{
+void seen(int);
+static int one(void), two(void);
+%}
+%%
+%{
+#define LOCAL return A
+%}
+"""
+BEHIND = "%%\nin_user(x) { RETURN(A); }\n"
+HEADER = """#define A 258
+#define RETURN_TOKEN(x) do { note(#x, \\
+  1); return (x); } while (0)
+#define give(x) return x;
+#define STOP return A;
+#define STEP
+#define KEYWORD(x) return known(x)
+#define FOREIGN(x) RETURN_ELSEWHERE(x)
+void count(void);
+"""
+# Actions, what is said of them without the header: the names that they call, or a part of what is advised where they aren't
+# understood; and the token of their mark with it. By C: a macro that hides a `return` stands where a statement begins.
+WITH_HEADER = [
+    ("{ RETURN_TOKEN(A); }", "as /*@token A*/, or name the file that defines RETURN_TOKEN by --header: ", "A"),
+    ("{ count(); give(A) }", "as /*@token A*/, or name the file that defines give by --header: ", "A"),
+    ("STOP;", "gives, or name the file that defines STOP by --header: ", "A"),
+    ("{ switch (x) { case B: STOP } }", "defines STOP by", "A"),
+    ("{ if (x) { y++; } else STOP }", "defines STOP by", "A"),
+    ("{ for (;;) label: RETURN_TOKEN(yy::A); }", "as /*@token A*/, or name the file that defines RETURN_TOKEN", "A"),
+    ("{ KEYWORD(A); }", "as /*@token A*/, or name the file that defines KEYWORD", "not.a.token"),
+    ("FOREIGN(A);", "as /*@token A*/, or name the file that defines FOREIGN", "not.a.token"),
+    ("{ STEP give(A) }", "defines give by", "A"),
+    ("{ STEP STOP }", "defines STOP by", "A"),
+    ("{ RETURN A; }", "gives, or name the file that defines RETURN by", "not.a.token"),
+    ("{ emit(x); }", "gives, or name the file that defines emit by", "not.a.token"),
+    ("{ tok(); }", "defines tok by", "not.a.token"),
+    ("{ kept; }", "defines kept by", "not.a.token"),
+    ("{ return_if(x); return A; }", "as /*@token A*/, or name the file that defines return_if by", "not.a.token"),
+    ("{ RETURN_IF(x); return yytext[0]; }", "gives, or name the file that defines RETURN_IF by", "not.a.token"),
+    ("{ KNOWN(x); return A; }", [], None),
+    ("LOCAL;", [], "A"),
+    # A call of a function, or what tells a place.
+    ("{ count(); }", ["count"], None),
+    ("{ if (x) update(1); }", ["update"], None),
+    ("{ do update(NULL, x); while (y); }", ["update"], None),
+    ("{ STEP; }", ["STEP"], None),
+    ('LOCATION_STEP (); LEXTRACE("RETURN(A)"); continue;', ["LOCATION_STEP", "LEXTRACE"], None),
+    # What hides nothing.
+    ("{ seen(A); one(); two(); in_user(); }", [], None),
+    ("{ ECHO; printf(\"RETURN(A)\"); yyset_lineno(1); }", [], None),
+    ("{ BUFFER(x) = *yytext; x = (char) CODE(yytext[1]); (void) GET(x); }", [], None),
+    ("{ lexer.emit(A); lexer->RETURN(A); yy::update(A); std::string s(yytext); }", [], None),
+    ("{ VALUE v; FILE *file; int N; x ? PLUS(1) : MINUS(2); /* RETURN(A) */ }", [], None),
+    ("{ RETURN(A); /*@skip*/ }", [], None),
 ]
 # A file of several start conditions; for each of some of them what is written behind the first %%, and what is said.
 CONDITIONS = """%s MORE
@@ -263,11 +324,12 @@ WITH_GRAMMAR = [
     (
         "%define api.token.prefix {T_}\n%token A B C\n%%\ns : A B C ;\n",
         "a GIVE(T_A);\nb return debug(T_B);\nc { BEGIN(X); return T_C; }\nd GIVE(T_D);\ne /*@skip*/ T_A;\n",
-        "a /*@token not.a.token*/ GIVE(T_A);\nb return debug(T_B);\nc { BEGIN(X); return T_C; }\nd GIVE(T_D);\n"
-        "e /*@skip*/ T_A;\n",
-        f"from_flex: l.l:2:1: {KEPT}, as /*@token A*/: a GIVE(T_A);\n"
+        "a /*@token not.a.token*/ GIVE(T_A);\nb return debug(T_B);\nc { BEGIN(X); return T_C; }\n"
+        "d /*@token not.a.token*/ GIVE(T_D);\ne /*@skip*/ T_A;\n",
+        f"from_flex: l.l:2:1: {KEPT}, as /*@token A*/, or name the file that defines GIVE by --header: a GIVE(T_A);\n"
         f"from_flex: l.l:3:1: {KEPT}, as /*@token B*/: b return debug(T_B);\n"
         f"from_flex: l.l:4:1: {KEPT}, as /*@token C*/: c {{ BEGIN(X); return T_C; }}\n"
+        f"from_flex: l.l:5:1: {KEPT}, or name the file that defines GIVE by --header: d GIVE(T_D);\n"
         "from_flex: l.l: no rule gives these tokens, so sentences with them have no text: A, B, C\n",
     ),
     (
@@ -277,6 +339,17 @@ WITH_GRAMMAR = [
         f"from_flex: l.l:2:1: {KEPT}, as /*@token A*/: a {{ if (x) return A; return BAD; }}\n"
         f"from_flex: l.l:3:1: {KEPT}, or write `return yytext[0];` where it gives its own byte: [+] return f(yytext[0]);\n"
         "from_flex: l.l: no rule gives these tokens, so sentences with them have no text: A\n",
+    ),
+    (
+        "%token A B\n%%\ns : A B ;\n",
+        "a { if (x) GIVE(A); else GIVE(B); }\n[+] { emit(x); }\n[ ] { count(); }\n",
+        "a /*@token not.a.token*/ { if (x) GIVE(A); else GIVE(B); }\n[+] /*@token not.a.token*/ { emit(x); }\n[ ] { count(); }\n",
+        f"from_flex: l.l:2:1: {KEPT}, as /*@token B*/, or name the file that defines GIVE by --header: a {{ if (x) GIVE(A); "
+        "else GIVE(B); }\n"
+        f"from_flex: l.l:3:1: {KEPT}, or name the file that defines emit by --header: [+] {{ emit(x); }}\n"
+        "from_flex: l.l: read as giving no token, though what they call isn't in sight: count, line 4: where one of these is a "
+        "macro that returns a token, name the file that defines it by --header\n"
+        "from_flex: l.l: no rule gives these tokens, so sentences with them have no text: A, B\n",
     ),
     # Rules that were left out may give them.
     (
@@ -413,6 +486,34 @@ def macro_rows(folder):
             yield f"{action}: {status}, {found!r}, {said}"
 
 
+def said_of(said, line):
+    """What is said of a rule: that it isn't understood, or the names of what it calls."""
+    kept = [told for told in said if told.startswith(f"{line}:1: {KEPT}")]
+    note = next((told for told in said if told.startswith(" read as giving no token")), "")
+    called = re.findall(r"(\w+), lines? ([\d, ]+)", note)
+    return kept[0] if kept else [name for name, lines in called if str(line) in lines.split(", ")]
+
+
+def header_rows(folder):
+    """What isn't in sight is told, or isn't understood; a header brings it in sight."""
+    written(folder, "l.h", HEADER)
+    text = SEEN + "".join(f"a {action}\n" for action, *_ in WITH_HEADER) + BEHIND
+    status, out, said = rule_lines(folder, text)
+    for line, (action, told, _) in enumerate(WITH_HEADER, SEEN.count("\n") + 1):
+        found, rule, is_read = said_of(said, line), out.splitlines()[line - 1], isinstance(told, list)
+        is_right = found == told if is_read else told in found
+        if status or not is_right or rule.startswith("a /*@token not.a.token*/") == is_read:
+            yield f"{action}: {status}, {rule!r}, {found!r}"
+    status, out, said = tool(folder, "from_flex", "--header", "l.h", "l.l")
+    for action, _, token in WITH_HEADER:
+        mark = f"/*@token {token}*/ " if token else ""
+        if f"\na {mark}{action}\n" not in out:
+            yield f"{action} with the header: {status}, not {token}: {out!r}"
+    status, out, said = tool(folder, "from_flex", "-i", "--header", "l.h", "--header", "no.h", "l.l")
+    if (status, out, said) != (3, "", "from_flex: no.h: No such file or directory\n"):
+        yield f"a header that isn't there: {status}, {out!r}, {said}"
+
+
 def function_rows(folder):
     """A call of a function of the file that reads on is as such a call itself."""
     status, _, said = rule_lines(folder, FUNCTIONS)
@@ -465,7 +566,7 @@ def bad_calls(folder):
 
 def main():
     failed = []
-    of_files = (file_rows, action_rows, macro_rows, function_rows, grammar_rows, condition_rows)
+    of_files = (file_rows, action_rows, macro_rows, header_rows, function_rows, grammar_rows, condition_rows)
     for rows in (pattern_rows, match_rows, flex_rows, *of_files, bad_calls):
         with tempfile.TemporaryDirectory() as folder:
             failed += rows(folder)

@@ -4,7 +4,8 @@ import re
 from typing import NamedTuple
 
 from flex_macros import blanked, without_text
-from plain import ITEM, Code
+from flex_sight import functions, unseen
+from plain import ITEM
 
 # A word of these makes an action foreign wherever it stands in it.
 FOREIGN_WORDS = {b"REJECT", b"yymore", b"yyless", b"unput", b"input", b"BEGIN", b"yyterminate"}
@@ -12,9 +13,8 @@ FOREIGN_WORDS = {b"REJECT", b"yymore", b"yyless", b"unput", b"input", b"BEGIN", 
 CALLS = re.compile(
     rb"yy_(?:push|pop)_state|yyinput|yyrestart|yy_(?:switch_to|scan)_(?:buffer|string|bytes)|yy(?:push|pop)_buffer_state"
 )
-# What changes it in a function of the file's own, and how such a function begins.
+# What changes it in a function of the file's own.
 CHANGES = re.compile(rb"\b(?:BEGIN|REJECT)\b|\b(?:yymore|yyless|unput|input|" + CALLS.pattern + rb")\s*\(")
-FUNCTION = re.compile(rb"\b(?!(?:if|for|while|switch)\b)([A-Za-z_]\w*)\s*\((?:[^;{}()]|\([^;{}()]*\))*\)\s*(?=\{)")
 # Through how many functions a call of one that reads on is followed.
 MOST_CALLS = 20
 # A call by which a text is refused.
@@ -60,11 +60,7 @@ def changing(code):
 
 def changing_functions(text):
     """The functions that a file defines and that change what is scanned, themselves or by a call."""
-    code, bodies, end = blanked(text), [], 0
-    for function in FUNCTION.finditer(code):
-        if function.start() >= end:
-            end = Code(code).block_end(function.end()) or len(code)
-            bodies.append((function[1], code[function.end() : end]))
+    bodies, _ = functions(blanked(text))
     words = [(name, {*WORD.findall(body)}) for name, body in bodies]
     found = {name for name, body in bodies if CHANGES.search(body)}
     for _ in range(MOST_CALLS):
@@ -177,14 +173,26 @@ def named_tokens(action, macros, tokens):
     return tuple(dict.fromkeys(tokens[word] for word in WORD.findall(macros.spelled_out(action)) if word in tokens))
 
 
+def hiding(action, macros, given):
+    """What an action uses that may hide a `return`: beside one that is seen, only what is named so."""
+    if MARK.search(action) or given.kind == "unknown":
+        return []
+    found = [use for use in unseen(action, macros) if use.may_give()]
+    return found if given == SKIP else [use for use in found if b"return" in use.name.lower()]
+
+
 def gives_of(action, macros, prefix, tokens):
-    """What an action gives, beside a grammar's tokens: one that returns nothing, but names a token, may return it in a macro
-    that is defined elsewhere. What isn't understood may be a token that it names."""
+    """What an action gives, beside a grammar's tokens: one that returns nothing may return a token in a macro that is defined
+    elsewhere. What isn't understood may be a token that it names."""
     given = gives(action, macros, prefix)
-    if MARK.search(action) or given.names or given.kind not in ("skip", "unknown"):
+    hidden = hiding(action, macros, given)
+    if MARK.search(action) or not hidden and (given.names or given.kind not in ("skip", "unknown")):
         return given
     named = named_tokens(action, macros, tokens)
-    return Gives("unknown", named) if named else given
+    if named or not hidden:
+        return Gives("unknown", named) if named else given
+    likely = () if tokens else tuple(name for use in hidden for name in use.tokens)
+    return Gives("unknown", tuple(dict.fromkeys([*given.names, *likely])))
 
 
 def without_casts(action):

@@ -10,6 +10,8 @@ NO_CODE = re.compile(rb"/\*.*?\*/|//[^\n]*|\"(?:\\.|[^\"\\\n])*\"|'(?:\\.|[^'\\\
 PIECE = re.compile(rb"'(?:\\.|[^'\\\n])*'|[A-Za-z0-9_]+|\s+|.", re.S)
 PASTE, TEXT_OF = re.compile(rb"\s*##\s*"), re.compile(rb"#\s*[A-Za-z_]\w*")
 WORD = re.compile(rb"[A-Za-z0-9_]+")
+# The name that stands for a macro with several bodies.
+SEVERAL = b"several"
 # How often macros are put in, and how long an action may become.
 MOST_DEEP, MOST_WRITTEN = 20, 1 << 16
 
@@ -29,7 +31,8 @@ def one_of(bodies, names):
     (body, listed), *others = bodies.items()
     if others:
         may_return = any(word == b"return" or word in names for body in bodies for word in WORD.findall(body))
-        body = b" several(%s) %s" % (b", ".join(bodies), b"; return several(); " if may_return else b"")
+        returned = b"; return %s(); " % SEVERAL if may_return else b""
+        body = b" %s(%s) %s" % (SEVERAL, b", ".join(bodies), returned)
     return listed, body
 
 
@@ -52,8 +55,8 @@ class Macros:
     """The macros that a text defines: for each its parameters, or None, and its body."""
 
     def __init__(self, text):
-        # The functions that change what is scanned.
-        self.changing, definitions = set(), {}
+        # The functions that are in sight, and those that change what is scanned.
+        self.functions, self.changing, definitions = set(), set(), {}
         for define in DEFINE.finditer(without_text(re.sub(rb"\\\r?\n", b" ", text))):
             body = define["body"].strip()
             listed = None if define["parameters"] is None else [name.strip() for name in define["parameters"].split(b",")]
