@@ -13,7 +13,7 @@ use Rattle.cs_run.specs.declared.input.refusal.Stop.TheVariants as stop
 use Rattle.cs_io.specs.Desk.{Files}
 use Rattle.cs_run.specs.Command.Scanned.{WritesByScanner, WritesChains, WritesLexical, WritesMembership, WritesTokens}
 use Rattle.cs_run.specs.Input.Files.{AreContents, Content, HaveContents, IsMeantFor, IsNoFile, Mean, most_for}
-use Rattle.cs_run.specs.Input.Read.{AreMeant}
+use Rattle.cs_run.specs.Input.Read.{AreMeant, HasShortText}
 use Rattle.cs_run.specs.Input.Refusal.{HasManyStates, Stops}
 use Rattle.cs_yacc.specs.Reading.File.{File}
 use Rattle.cs_words.specs.declared.command.Command.{Command}
@@ -25,6 +25,7 @@ use Rattle.cs_words.specs.declared.command.PairCommand.TheVariants as of_pair
 use Rattle.cs_words.specs.declared.command.Role.{Role}
 use Rattle.cs_words.specs.declared.command.Role.TheVariants.{Lex, Manifest, Text as TextRole, Yacc}
 use Rattle.cs_words.specs.declared.options.Options.{Options}
+use Rattle.cs_words.specs.declared.request.Request.{Request}
 use Rattle.cs_words.specs.Commands.{lists_chains, taken_of}
 use Rattle.cs_words.specs.Requests.{IsAsked, Named, Names, Number, PlainArguments, PlainRequest, files_of}
 use Rattle.cs_words.proofs.OneRequest.{one_asked}
@@ -42,7 +43,7 @@ use Rattle.cs_run.specs.Ending.Summary.{IsSummary}
 use Rattle.cs_run.specs.Ending.Texts.{Denies, IsTextBy, IsTextOf, IsTextOfPair, NoneDenies}
 use Rattle.cs_run.specs.Writer.Suite.{IsRules, IsSuite}
 use Rattle.cs_io.specs.Asked.{HasRoomForAll}
-use Rattle.cs_run.specs.Command.Carrying.{CarriesOut, GrewByEach, GrewBySome, HasTooManyChains, HasTooManyStates, TakesGrammar, TakesPair, TakesThird, Writes, WritesBy, WritesByPair, WritesOfGrammar, WritesOfPair, WritesSummary, WritesSure, WritingEnds}
+use Rattle.cs_run.specs.Command.Carrying.{CarriesOut, GrewByEach, GrewBySome, HasTooManyChains, HasTooManyStates, TakesGrammar, TakesPair, TakesThird, Writes, WritesAsked, WritesBy, WritesByPair, WritesOfGrammar, WritesOfPair, WritesSummary, WritesSure, WritingEnds}
 use Rattle.cs_run.specs.Command.Words.{AskForNoFiles, PerformsFor, ending_of}
 use Rattle.cs_run.proofs.OnInput.Meanings.{one_meaning}
 
@@ -267,9 +268,12 @@ tokens_so beside tokens ending out few scans writes arguments options =
     fronts (inl same) = inl same
     fronts (inr (text, is, part)) = inr (text, (tokens, scans, is), part)
 
--- a text that was read is no longer than it may be
-pub text_short : (files : Option Files) (named : List Named) (meant : Meant) → AreMeant files named meant → (beside : PairAndText) → meant ≡ Text beside → length beside.text ≤ 67108864
-text_short files named meant read beside is = by_contents read.0 (subst (λ (m : Meant). Mean read.0 m) is read.2)
+-- a third file that was read is no longer than the longest may be
+pub text_short : (files : Option Files) (named : List Named) (meant : Meant) → AreMeant files named meant → HasShortText meant
+text_short files named Nothing read = tt
+text_short files named (Grammar file) read = tt
+text_short files named (Pair two) read = tt
+text_short files named (Text beside) read = by_contents read.0 read.2
   where
     at_most : (role : Role) → most_for role ≤ 67108864
     at_most Yacc = omega arith
@@ -288,13 +292,12 @@ text_short files named meant read beside is = by_contents read.0 (subst (λ (m :
 
 module _ (words : List (List ℕ)) (request : PlainRequest) (asked : IsAsked words (Ok request)) (meant : Meant) (desk : DeskUse) (out : SinkUse) (ending : Ending)
     (read : HaveContents desk.files (files_of request) (λ contents. Mean contents meant)) (calm : Changed desk → IsNoFile {A = Meant} (Ok meant)) (steady : IsSteady desk) where
-  pub performs_as : (m : Meant) → meant ≡ m → WritesBy request.command request.arguments request.options m ending out → PerformsFor words ending desk out
-  performs_as m is writes = (
-    Ok request,
-    asked,
-    performed request meant desk out ending read calm steady
-        (carried request meant ending out (subst (λ (n : Meant). WritesBy request.command request.arguments request.options n ending out) (sym is) writes)),
-  )
+  pub performs_as : WritesBy request.command request.arguments request.options meant ending out → PerformsFor words ending desk out
+  performs_as writes = (Ok request, asked, performed request meant desk out ending read calm steady (carried request meant ending out writes))
+
+-- what is written by the meaning that was met
+pub asked_as : (ending : Ending) (out : SinkUse) (request : Request) (meant m : Meant) → meant ≡ m → WritesAsked request m ending out → WritesAsked request meant ending out
+asked_as ending out request meant m is writes = subst (λ (n : Meant). WritesAsked request n ending out) (sym is) writes
 
 pub no_files_so : {D : Type 0} (words : List (List ℕ)) (request : PlainRequest) (old new : D) → IsAsked words (Ok request) → (files_of request ≡ [] → new ≡ old) → AskForNoFiles words → new ≡ old
 no_files_so words request old new asked still asks =

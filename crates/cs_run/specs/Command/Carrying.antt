@@ -23,7 +23,8 @@ use Rattle.cs_words.specs.declared.command.Command.{Command}
 use Rattle.cs_words.specs.declared.command.Role.TheVariants.{Lex, Yacc}
 use Rattle.cs_words.specs.declared.options.Options.{Options}
 use Rattle.cs_words.specs.Commands.{Files, taken_of}
-use Rattle.cs_words.specs.Requests.{PlainArguments, PlainRequest}
+use Rattle.cs_words.specs.Requests.{PlainArguments, PlainRequest, plain_arguments}
+use Rattle.cs_words.specs.declared.request.Request.{Request}
 use Rattle.cs_yacc.specs.declared.reading.file.YaccFile.{YaccFile}
 use Rattle.cs_io.specs.Asked.{GrewByOne, GrewByPart, HasRoomForAll}
 
@@ -81,6 +82,10 @@ abbrev pub WritesBy : Command → PlainArguments → Options → Meant → Endin
 WritesBy command arguments options meant ending out =
     Writes (IsWithin meant command) (λ refusal. IsBeyond meant refusal command) (IsTextBy command arguments options meant)
     (GrewAsAsked command (IsTextBy command arguments options meant)) (Denies command) ending out
+
+-- the text that a request asks for by what its files mean was written, and that ended so
+abbrev pub WritesAsked : Request → Meant → Ending → SinkUse → Type 0
+WritesAsked request meant ending out = WritesBy request.command (plain_arguments request.arguments) request.options meant ending out
 
 -- whatever contents mean this: the text that the request asks for by them was written, and that ended so
 abbrev pub CarriesOut : PlainRequest → Meant → Ending → SinkUse → Type 0

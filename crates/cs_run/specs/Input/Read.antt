@@ -1,5 +1,5 @@
 -- What was read.
-use Rattle.std.specs.Prelude.{◌+◌, ℕ, List, Option, Vec, length}
+use Rattle.std.specs.Prelude.{◌+◌, ◌≤◌, ℕ, List, Option, Vec, length}
 use Rattle.std.specs.declared.alloc.Global.{Global}
 use Rattle.cs_io.specs.Desk.{Files, IsBeginning}
 use Rattle.cs_run.specs.declared.input.judging.Meant.{Meant}
@@ -50,6 +50,11 @@ abbrev pub HasItsTokens : Meant → Type 0
 HasItsTokens (PairOf pair) = HasTokensOf (length pair.yacc.token_names) pair.lex
 HasItsTokens (Text beside) = HasTokensOf (length beside.pair.yacc.token_names) beside.pair.lex
 HasItsTokens meant = Unit {0}
+
+-- a third file has no more bytes than the longest may have
+abbrev pub HasShortText : Meant → Type 0
+HasShortText (Text beside) = length beside.text ≤ 67108864
+HasShortText meant = Unit {0}
 
 -- what these bytes mean
 abbrev pub IsTextOfAll : Role → List ℕ → List ℕ → Vec ℕ Global → PairAndText → Type 0

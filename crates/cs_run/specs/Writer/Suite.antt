@@ -1,12 +1,17 @@
 -- The manifests that `rules` and `suite` write.
-use Rattle.std.specs.Prelude.{ℕ, List, Some}
+use Rattle.std.specs.Prelude.{ℕ, List, Option, None, Some}
 use Rattle.std.specs.Borrow.{Bor}
 use Rattle.cs_run.specs.Ending.Files.{choice_by, choice_of}
 use Rattle.cs_run.specs.declared.input.judging.Pair.{Pair}
 use Rattle.cs_grammar.specs.Weights.{Measure, Weighed}
 use Rattle.cs_manifest.specs.Manifest.ByWork.{texts_of}
 use Rattle.cs_manifest.specs.Manifest.Manifest.{Choice, IsManifest, measure_of, rules_form}
+use Rattle.cs_choices.specs.declared.format.Format.{Format}
+use Rattle.cs_choices.specs.declared.format.Format.TheVariants.{One, Two}
+use Rattle.cs_verdicts.specs.Closed.Closed.{ClosedSets}
 use Rattle.cs_writing.specs.declared.plan.plan.Means.{Means}
+use Rattle.cs_writing.specs.declared.plan.plan.PlanForm.{PlanForm}
+use Rattle.cs_writing.specs.declared.plan.plan.PlanForm.TheVariants.{Shared, Suite}
 use Rattle.cs_scanner.specs.Scan.Scan.{Scanning}
 use Rattle.cs_texts.specs.declared.rendering.render_work.RenderWork.{RenderWork}
 use Rattle.cs_words.specs.declared.options.Options.{Options}
@@ -51,3 +56,13 @@ means_by options work pairs = record {
   mutation = record { pairs = pairs; operators = options.operators; most = options.bases; first = options.first };
   weigh = options.weigh;
 }
+
+-- the second format tells closed sets
+abbrev pub format_with : Option ClosedSets → Format
+format_with None = One
+format_with (Some closed) = Two
+
+-- the form of a suite by these means, with closed sets where its head tells them
+abbrev pub form_by : Means → Option (Bor ClosedSets) → PlanForm
+form_by means None = Suite means
+form_by means (Some closed) = Shared means closed

@@ -2,9 +2,9 @@
 
 ghost use Rattle.std.specs.Prelude.{◌≡◌, ◌≤◌, length};
 ghost use Rattle.cs_run.specs.Ending.Ending.{HasLine};
-ghost use Rattle.cs_run.specs.Input.Read.{HasTokensOfItsFile};
+ghost use Rattle.cs_run.specs.Input.Read.{HasItsTokens, HasShortText, HasTokensOfItsFile, IsFormOf};
 ghost use Rattle.cs_io.specs.Uses.{desk_used, used};
-ghost use Rattle.cs_run.specs.Command.Carrying.{TakesGrammar, TakesPair, TakesThird, WritesByGrammar, WritesByPair, WritesByText, WritesOfPair, WritesSummary, WritesSure};
+ghost use Rattle.cs_run.specs.Command.Carrying.{TakesGrammar, TakesPair, TakesThird, WritesAsked, WritesByGrammar, WritesByPair, WritesByText, WritesOfPair, WritesSummary, WritesSure};
 ghost use Rattle.cs_run.specs.Command.Words.{AreBad, AskForNoFiles, KeepsPromisesTo, PerformsFor};
 ghost use Rattle.cs_words.specs.Words.{texts};
 ghost use Rattle.cs_run.specs.Writer.Suite.{IsRules, IsSuite};
@@ -21,7 +21,7 @@ use crate::writer::{scanner_of, write_rules, write_suite, write_summary};
 use cs_fan::{Crew, Gate};
 use cs_io::{Desk, Sink};
 use cs_scanner::Automaton;
-use cs_words::{Arguments, Command, GrammarCommand, Options, PairCommand, read_words};
+use cs_words::{Arguments, Command, GrammarCommand, Options, PairCommand, Request, read_words};
 use cs_yacc::YaccFile;
 use std::alloc::Global;
 use std::thread::Threads;
@@ -75,14 +75,32 @@ fn perform<R: Threads + Sync, D: Desk, O: Sink, G: Gate + Sync>(
         Ok(meant) => meant,
         Err(stop) => return stopped(stop),
     };
+    carry_out(crew, alloc, &request, &meant, out)
+}
+
+// Writes the text that a request asks for by what its files mean.
+fn carry_out<R: Threads + Sync, O: Sink, G: Gate + Sync>(
+    crew: &Crew<'_, R, G>,
+    alloc: Global,
+    request: &Request<'_>,
+    meant: &Meant,
+    out: &mut O,
+) -> Ending
+    requires form { IsFormOf request.now meant.now }
+    requires short { HasShortText meant.now }
+    requires tokens { HasItsTokens meant.now }
+    ensures writes { WritesAsked request.now meant.now result
+        (used O.Sink out.old out.new) }
+    ensures told { HasLine result }
+{
     match meant {
         Meant::Nothing => match request.arguments {
             Arguments::Seed(seed) => summary(crew, alloc, seed, out),
             Arguments::Files(_) => unreachable!(),
         },
-        Meant::Grammar(file) => of_grammar(crew, alloc, request.command, &file, out),
-        Meant::Pair(pair) => of_pair(crew, alloc, request.command, &request.options, &pair, out),
-        Meant::Text(beside) => of_third(alloc, request.command, &beside, out),
+        Meant::Grammar(file) => of_grammar(crew, alloc, request.command, file, out),
+        Meant::Pair(pair) => of_pair(crew, alloc, request.command, &request.options, pair, out),
+        Meant::Text(beside) => of_third(alloc, request.command, beside, out),
     }
 }
 

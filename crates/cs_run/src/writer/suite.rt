@@ -1,13 +1,14 @@
 // The writer of `suite`.
 
-ghost use Rattle.std.specs.Prelude.{◌≡◌, IfOk, OnErr, OnOk};
+ghost use Rattle.std.specs.Prelude.{◌≡◌, IfOk, IfSome, OnErr, OnOk};
 ghost use Rattle.cs_choices.specs.declared.format.Format.TheVariants.{One};
 ghost use Rattle.cs_writing.specs.Plan.Plans.{CanRender};
-ghost use Rattle.cs_run.specs.Writer.Suite.{IsBy, IsSuiteBy, means_by, measure_by};
+ghost use Rattle.cs_run.specs.Writer.Suite.{IsBy, IsSuiteBy, form_by, format_with, means_by, measure_by};
 ghost use Rattle.cs_io.specs.declared.halt.Halt.TheVariants.{Failed};
 ghost use Rattle.cs_writing.specs.Writing.Writing.{CountsOfAll, HasNoCases};
 ghost use Rattle.cs_io.specs.Asked.{IsCalmForAll, MetFault, MetNone, Stopped, TookFront, TookOne};
 ghost use Rattle.cs_scanner.specs.Scan.Compared.{scanning};
+ghost use Rattle.cs_verdicts.specs.Closed.Closed.{AreClosedSets};
 ghost use Rattle.cs_yacc.specs.Reading.File.{IsFile};
 
 use crate::writer::weights::weights_of;
@@ -22,7 +23,7 @@ use cs_verdicts::{Closed, Pairs, Positives, Tables};
 use cs_words::Options;
 use cs_writing::{Means, Mutation, Plan, PlanForm, write_out};
 use cs_yacc::YaccFile;
-use std::alloc::Global;
+use std::alloc::{AllocError, Global};
 use std::thread::Threads;
 
 /// Writes the manifest of a yacc file by what the options choose, with texts for this scanner, and
@@ -82,25 +83,38 @@ fn write_goals<'f, R: Threads + Sync, O: Sink, G: Gate + Sync>(
     ensures room { IsCalmForAll O.Sink (IsBy work.now file.now options.now) out.old out.new }
 {
     let tables = Tables::new(alloc, file.grammar(), weights)?;
+    let closed = closed_for(alloc, options.format, &tables)?;
+    let plan = Plan {
+        yacc: file,
+        criteria: options.criteria,
+        form: form_of(means_of(options, work, tables.pairs()), closed.as_ref()),
+    };
     let positives = Positives::new(&tables, options.criteria);
-    match options.format {
-        Format::One => {
-            let plan = Plan {
-                yacc: file,
-                criteria: options.criteria,
-                form: PlanForm::Suite(means_of(options, work, tables.pairs())),
-            };
-            write_out(crew, alloc, &plan, positives, out)
-        }
-        Format::Two => {
-            let closed = Closed::new(alloc, &tables)?;
-            let plan = Plan {
-                yacc: file,
-                criteria: options.criteria,
-                form: PlanForm::Shared(means_of(options, work, tables.pairs()), &closed),
-            };
-            write_out(crew, alloc, &plan, positives, out)
-        }
+    write_out(crew, alloc, &plan, positives, out)
+}
+
+// The closed sets of a grammar, where the head of this format tells them.
+fn closed_for(
+    alloc: Global,
+    format: Format,
+    tables: &Tables<'_>,
+) -> Result<Option<Closed>, AllocError>
+    ensures sets { IfOk result (λ closed. IfSome closed (AreClosedSets tables.now.grammar)) }
+    ensures told { IfOk result (λ closed. format_with closed ≡ format) }
+{
+    match format {
+        Format::One => Ok(None),
+        Format::Two => Ok(Some(Closed::new(alloc, tables)?)),
+    }
+}
+
+// The form of a suite by these means, with closed sets where its head tells them.
+fn form_of<'a>(means: Means<'a>, closed: Option<&'a Closed>) -> PlanForm<'a>
+    ensures { result ≡ form_by means.entry closed.entry }
+{
+    match closed {
+        None => PlanForm::Suite(means),
+        Some(closed) => PlanForm::Shared(means, closed),
     }
 }
 
