@@ -3,6 +3,7 @@
 import re
 from typing import NamedTuple
 
+from flex_flow import always_returns
 from flex_macros import blanked, without_text
 from flex_sight import functions, unseen
 from plain import ITEM
@@ -153,7 +154,8 @@ def token_of(value, prefix):
 
 
 def gives(action, macros, prefix):
-    """What an action of flex's gives, with the macros put in: that is known where each `return` gives the same."""
+    """What an action of flex's gives, with the macros put in: that is known where it returns on each way and each `return` gives the
+    same, or where it never returns."""
     mark = MARK.search(action)
     if mark:
         return Gives("token", (mark[1],)) if mark[1] else SKIP
@@ -161,7 +163,8 @@ def gives(action, macros, prefix):
     ends = [found.end() for found in re.finditer(rb"\breturn\b", without_literals(code))]
     values = [operand(code, end) for end in ends]
     found = [UNKNOWN if value is None else token_of(value, prefix) for value in values]
-    if changing(code) or not macros.changing.isdisjoint(WORD.findall(code)) or len({*found}) > 1:
+    is_sure = not found or len({*found}) == 1 and always_returns(code)
+    if changing(code) or not macros.changing.isdisjoint(WORD.findall(code)) or not is_sure:
         return Gives("unknown", tuple(dict.fromkeys(name for given in found for name in given.names)))
     if not found and REFUSES.search(code):
         return UNKNOWN
