@@ -18,7 +18,6 @@ use Rattle.cs_run.specs.Input.Refusal.{HasManyStates, Stops}
 use Rattle.cs_yacc.specs.Reading.File.{File}
 use Rattle.cs_words.specs.declared.command.Command.{Command}
 use Rattle.cs_words.specs.declared.command.Command.TheVariants.{Check, Gen, Member, OfGrammar, OfPair}
-use Rattle.cs_words.specs.declared.command.GrammarCommand.{GrammarCommand}
 use Rattle.cs_words.specs.declared.command.GrammarCommand.TheVariants as of_grammar
 use Rattle.cs_words.specs.declared.command.PairCommand.{PairCommand}
 use Rattle.cs_words.specs.declared.command.PairCommand.TheVariants as of_pair
@@ -44,7 +43,7 @@ use Rattle.cs_run.specs.Ending.Texts.{Denies, IsTextBy, IsTextOf, IsTextOfPair, 
 use Rattle.cs_run.specs.Writer.Suite.{IsRules, IsSuite}
 use Rattle.cs_io.specs.Asked.{HasRoomForAll}
 use Rattle.cs_run.specs.Command.Carrying.{CarriesOut, GrewByEach, GrewBySome, HasTooManyChains, HasTooManyStates, TakesGrammar, TakesPair, TakesThird, Writes, WritesAsked, WritesBy, WritesByPair, WritesOfGrammar, WritesOfPair, WritesSummary, WritesSure, WritingEnds}
-use Rattle.cs_run.specs.Command.Words.{AskForNoFiles, PerformsFor, ending_of}
+use Rattle.cs_run.specs.Command.Words.{AskForNoFiles, ending_of}
 use Rattle.cs_run.proofs.OnInput.Meanings.{one_meaning}
 
 -- a read of the desk failed
@@ -290,10 +289,10 @@ text_short files named (Text beside) read = by_contents read.0 read.2
 
 -- ---- by what was read
 
-module _ (words : List (List ℕ)) (request : PlainRequest) (asked : IsAsked words (Ok request)) (meant : Meant) (desk : DeskUse) (out : SinkUse) (ending : Ending)
-    (read : HaveContents desk.files (files_of request) (λ contents. Mean contents meant)) (calm : Changed desk → IsNoFile {A = Meant} (Ok meant)) (steady : IsSteady desk) where
-  pub performs_as : WritesBy request.command request.arguments request.options meant ending out → PerformsFor words ending desk out
-  performs_as writes = (Ok request, asked, performed request meant desk out ending read calm steady (carried request meant ending out writes))
+pub performs_as : (request : PlainRequest) (meant : Meant) (desk : DeskUse) (out : SinkUse) (ending : Ending)
+    → HaveContents desk.files (files_of request) (λ contents. Mean contents meant)
+    → (Changed desk → IsNoFile {A = Meant} (Ok meant)) → IsSteady desk → WritesBy request.command request.arguments request.options meant ending out → Performs ending (Ok request) desk out
+performs_as request meant desk out ending read calm steady writes = performed request meant desk out ending read calm steady (carried request meant ending out writes)
 
 -- what is written by the meaning that was met
 pub asked_as : (ending : Ending) (out : SinkUse) (request : Request) (meant m : Meant) → meant ≡ m → WritesAsked request m ending out → WritesAsked request meant ending out

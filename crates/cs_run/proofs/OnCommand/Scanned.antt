@@ -13,7 +13,6 @@ use Rattle.cs_pattern_parts.specs.declared.kind.Kind.{Kind}
 use Rattle.cs_pattern_parts.specs.declared.kind.Kind.TheVariants.{Foreign, OwnByte, Skip, Token}
 use Rattle.cs_run.specs.declared.ending.ending.Ending.{Ending}
 use Rattle.cs_run.specs.declared.ending.ending.Ending.TheVariants.{Halted, Written}
-use Rattle.cs_run.specs.declared.input.judging.Pair as pair
 use Rattle.cs_run.specs.declared.input.refusal.Refusal.{Refusal}
 use Rattle.cs_run.specs.declared.input.refusal.Refusal.TheVariants.{States}
 use Rattle.cs_words.specs.declared.command.Command.{Command}

@@ -7,7 +7,6 @@ use Rattle.cs_io.specs.Uses.{Change}
 use Rattle.cs_yacc.specs.declared.reading.TheConstants.{MOST_BYTES}
 use Rattle.cs_yacc.specs.Reading.File as yacc
 use Rattle.cs_yacc.specs.Reading.Reading.{IsYaccFile}
-use Rattle.cs_lex.specs.Reading.File as lex
 use Rattle.cs_lex.specs.declared.reading.error.LexError.{LexError}
 use Rattle.cs_lex.specs.declared.reading.error.LexError.TheVariants.{Memory as LexMemory}
 use Rattle.cs_lex.specs.Reading.Reading.{RefusesOrMemory}

@@ -8,16 +8,16 @@ use Rattle.cs_choices.specs.declared.format.Format.{Format}
 use Rattle.cs_choices.specs.declared.format.Format.TheVariants.{One}
 use Rattle.cs_choices.specs.declared.weigh.Weigh.TheVariants.{Nodes}
 use Rattle.cs_manifest.specs.Manifest.ByWork.{texts_of}
-use Rattle.cs_manifest.specs.Manifest.Manifest.{Choice}
+use Rattle.cs_manifest.specs.Manifest.Manifest.{Choice, measure_of}
 use Rattle.cs_texts.specs.declared.rendering.render_work.RenderWork.{RenderWork}
 use Rattle.cs_verdicts.specs.Closed.Closed.{AreClosedSets, ClosedSets}
 use Rattle.cs_words.specs.declared.options.Options.{Options}
-use Rattle.cs_writing.specs.Plan.Plans.{AreMeansOf, IsFormOf, choice_in, first_by, format_by, means_in, no_operator}
+use Rattle.cs_writing.specs.Plan.Plans.{AreMeansOf, IsFormOf, choice_in, first_by, format_by, means_in, no_operator, weigh_by}
 use Rattle.cs_writing.specs.declared.plan.plan.Means.{Means}
 use Rattle.cs_writing.specs.declared.plan.plan.Plan.{Plan}
 use Rattle.cs_writing.specs.declared.plan.plan.PlanForm.{PlanForm}
 use Rattle.cs_yacc.specs.Reading.File.{File}
-use Rattle.cs_run.specs.Writer.Suite.{choice_with, form_by, format_with, means_by}
+use Rattle.cs_run.specs.Writer.Suite.{choice_with, form_by, format_with, means_by, measure_by}
 
 -- ---- by the means
 
@@ -58,3 +58,9 @@ pub same_choice : (options : Options) (file : Bor File) (work : Bor RenderWork) 
     → choice_in (plan_of options file form) ≡ choice_with options work.now
 same_choice options file work pairs form has =
     ap (λ (o : Option Means). choice_of options o (format_by form)) has.means ∙ ap (λ (f : Format). choice_of options (Some (means_by options work pairs)) f) has.format
+
+-- and measures trees as the options do
+pub same_measure : (options : Options) (file : File) (work : Bor RenderWork) (pairs : Bor Weighed) (form : PlanForm) → HasForm file (means_by options work pairs) options.format form
+    → measure_of (weigh_by form) file.grammar.tokens (option_map (λ m. m.work.now.lexemes.now) (means_in form)) ≡ measure_by options file work.now
+same_measure options file work pairs form has =
+    ap (λ (o : Option Means). measure_of (option_map_or (λ m. m.weigh) o Nodes) file.grammar.tokens (option_map (λ m. m.work.now.lexemes.now) o)) has.means

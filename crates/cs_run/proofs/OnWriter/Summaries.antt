@@ -5,8 +5,6 @@ use Rattle.cs_gen.specs.declared.files.Generated.{Generated}
 use Rattle.cs_gen.specs.Texts.{lex_text, yacc_text}
 use Rattle.cs_yacc.specs.Reading.File as yacc
 use Rattle.cs_yacc.proofs.OnReading.OneFile as yacc_files
-use Rattle.cs_lex.specs.Reading.File as lex
-use Rattle.cs_lex.proofs.OnReading.OneFile as lex_files
 use Rattle.cs_run.specs.declared.input.judging.Pair.{Pair}
 use Rattle.cs_run.specs.Input.Files.{IsPairOf}
 use Rattle.cs_run.specs.Input.Refusal.{HasManyStates, Refuses, pair_contents}

@@ -1,9 +1,15 @@
 -- The manifests that `rules` and `suite` write.
-use Rattle.std.specs.Prelude.{ℕ, List, Option, None, Some}
+use Rattle.std.specs.Prelude.{◌≡◌, ℕ, List, Option, None, Some, Result, IfOk, OnErr, OnOk}
 use Rattle.std.specs.Borrow.{Bor}
+use Rattle.cs_io.specs.Asked.{IsCalmForAll, MetFault, MetNone, Stopped, TookFront, TookOne}
+use Rattle.cs_io.specs.declared.halt.Halt.{Halt}
+use Rattle.cs_io.specs.declared.halt.Halt.TheVariants.{Failed}
+use Rattle.cs_io.specs.declared.sink.Sink as Sink
+use Rattle.cs_manifest.specs.declared.manifest.counts.Counts.{Counts}
+use Rattle.cs_writing.specs.Writing.Writing.{CountsOfAll, HasNoCases}
 use Rattle.cs_run.specs.Ending.Files.{choice_by, choice_of}
 use Rattle.cs_run.specs.declared.input.judging.Pair.{Pair}
-use Rattle.cs_grammar.specs.Weights.{Measure, Weighed}
+use Rattle.cs_grammar.specs.Weights.{Measure, Weighed, weighed}
 use Rattle.cs_manifest.specs.Manifest.ByWork.{texts_of}
 use Rattle.cs_manifest.specs.Manifest.Manifest.{Choice, IsManifest, measure_of, rules_form}
 use Rattle.cs_choices.specs.declared.format.Format.{Format}
@@ -49,6 +55,10 @@ IsBy work file options text = IsManifest (choice_with options work) file text
 abbrev pub measure_by : Options → File → RenderWork → Measure
 measure_by options file work = measure_of options.weigh file.grammar.tokens (Some work.lexemes.now)
 
+-- what the verdicts of a yacc file are made by: its grammar, measured so
+abbrev pub tables_by : Options → File → RenderWork → Weighed
+tables_by options file work = weighed file.grammar (measure_by options file work)
+
 -- what the options' suite is made by, with these texts and pairs
 abbrev pub means_by : Options → Bor RenderWork → Bor Weighed → Means
 means_by options work pairs = record {
@@ -66,3 +76,14 @@ format_with (Some closed) = Two
 abbrev pub form_by : Means → Option (Bor ClosedSets) → PlanForm
 form_by means None = Suite means
 form_by means (Some closed) = Shared means closed
+
+-- One of these texts was written in this format, or a part of it where that stopped; with what is known of counts and faults.
+module _ {S : Type 0} (g : Sink.Ghosts S) where
+  pub record WritesManifest (Is : List ℕ → Type 0) (format : Format) (result : Result Counts Halt) (old new : S) : Type 0 where
+    pub ok : OnOk result (TookOne g Is old new)
+    pub counts : IfOk result (CountsOfAll Is)
+    pub first : format ≡ One → IfOk result HasNoCases
+    pub part : OnErr result (TookFront g Is old new)
+    pub no_fault : OnOk result (MetNone g old new)
+    pub failed : Stopped Failed result → MetFault g old new
+    pub room : IsCalmForAll g Is old new

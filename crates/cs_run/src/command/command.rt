@@ -1,11 +1,12 @@
 // What the words ask for, done.
 
-ghost use Rattle.std.specs.Prelude.{◌≡◌, ◌≤◌, length};
-ghost use Rattle.cs_run.specs.Ending.Ending.{HasLine};
+ghost use Rattle.std.specs.Prelude.{◌≡◌, ◌≤◌, [], Ok, length};
+ghost use Rattle.cs_run.specs.Ending.Ending.{HasLine, Performs};
 ghost use Rattle.cs_run.specs.Input.Read.{HasItsTokens, HasShortText, HasTokensOfItsFile, IsFormOf};
 ghost use Rattle.cs_io.specs.Uses.{desk_used, used};
 ghost use Rattle.cs_run.specs.Command.Carrying.{TakesGrammar, TakesPair, TakesThird, WritesAsked, WritesByGrammar, WritesByPair, WritesByText, WritesOfPair, WritesSummary, WritesSure};
 ghost use Rattle.cs_run.specs.Command.Words.{AreBad, AskForNoFiles, KeepsPromisesTo, PerformsFor};
+ghost use Rattle.cs_words.specs.Requests.{IsFitting, files_in, plain_request};
 ghost use Rattle.cs_words.specs.Words.{texts};
 ghost use Rattle.cs_run.specs.Writer.Suite.{IsRules, IsSuite};
 
@@ -67,15 +68,31 @@ fn perform<R: Threads + Sync, D: Desk, O: Sink, G: Gate + Sync>(
     ensures bad_words_ask_nothing { AreBad (texts words.now) → desk.new ≡ desk.old }
     ensures no_files_ask_nothing { AskForNoFiles (texts words.now) → desk.new ≡ desk.old }
 {
-    let request = match read_words(words) {
-        Ok(request) => request,
-        Err(bad) => return Ending::BadWord { at: bad.at },
-    };
-    let meant = match read_files(alloc, &request, desk) {
-        Ok(meant) => meant,
-        Err(stop) => return stopped(stop),
-    };
-    carry_out(crew, alloc, &request, &meant, out)
+    match read_words(words) {
+        Ok(request) => fulfil(crew, alloc, &request, desk, out),
+        Err(bad) => Ending::BadWord { at: bad.at },
+    }
+}
+
+// Does what a request asks for.
+fn fulfil<R: Threads + Sync, D: Desk, O: Sink, G: Gate + Sync>(
+    crew: &Crew<'_, R, G>,
+    alloc: Global,
+    request: &Request<'_>,
+    desk: &mut D,
+    out: &mut O,
+) -> Ending
+    requires { IsFitting (plain_request request.now) }
+    ensures performs { Performs result (Ok (plain_request request.now))
+        (desk_used D.Desk desk.old desk.new)
+        (used O.Sink out.old out.new) }
+    ensures told { HasLine result }
+    ensures no_files_ask_nothing { files_in request.now ≡ [] → desk.new ≡ desk.old }
+{
+    match read_files(alloc, request, desk) {
+        Ok(meant) => carry_out(crew, alloc, request, &meant, out),
+        Err(stop) => stopped(stop),
+    }
 }
 
 // Writes the text that a request asks for by what its files mean.

@@ -2,8 +2,9 @@
 
 ghost use Rattle.std.specs.Prelude.{◌≡◌, IfOk, IfSome, OnErr, OnOk};
 ghost use Rattle.cs_choices.specs.declared.format.Format.TheVariants.{One};
+ghost use Rattle.cs_grammar.specs.Weights.{IsMeasure};
 ghost use Rattle.cs_writing.specs.Plan.Plans.{CanRender};
-ghost use Rattle.cs_run.specs.Writer.Suite.{IsBy, IsSuiteBy, form_by, format_with, means_by, measure_by};
+ghost use Rattle.cs_run.specs.Writer.Suite.{IsBy, IsSuiteBy, WritesManifest, form_by, format_with, means_by, measure_by, tables_by};
 ghost use Rattle.cs_io.specs.declared.halt.Halt.TheVariants.{Failed};
 ghost use Rattle.cs_writing.specs.Writing.Writing.{CountsOfAll, HasNoCases};
 ghost use Rattle.cs_io.specs.Asked.{IsCalmForAll, MetFault, MetNone, Stopped, TookFront, TookOne};
@@ -61,35 +62,48 @@ pub fn write_suite<R: Threads + Sync, O: Sink, G: Gate + Sync>(
 }
 
 // The same by these texts and weights.
-fn write_goals<'f, R: Threads + Sync, O: Sink, G: Gate + Sync>(
+fn write_goals<R: Threads + Sync, O: Sink, G: Gate + Sync>(
     crew: &Crew<'_, R, G>,
     alloc: Global,
-    file: &'f YaccFile,
-    weights: &'f Weights,
+    file: &YaccFile,
+    weights: &Weights,
     options: &Options,
-    work: &'f RenderWork<'f>,
+    work: &RenderWork<'_>,
     out: &mut O,
 ) -> Result<Counts, Halt>
     requires weights { weights.now ≡ measure_by options.now file.now work.now }
     requires work { CanRender file.now work.now }
-    ensures ok { OnOk result
-        (TookOne O.Sink (IsBy work.now file.now options.now) out.old out.new) }
-    ensures counts { IfOk result (CountsOfAll (IsBy work.now file.now options.now)) }
-    ensures first { options.now.format ≡ One → IfOk result HasNoCases }
-    ensures part { OnErr result
-        (TookFront O.Sink (IsBy work.now file.now options.now) out.old out.new) }
-    ensures no_fault { OnOk result (MetNone O.Sink out.old out.new) }
-    ensures failed { Stopped Failed result → MetFault O.Sink out.old out.new }
-    ensures room { IsCalmForAll O.Sink (IsBy work.now file.now options.now) out.old out.new }
+    ensures writes { WritesManifest O.Sink
+        (IsBy work.now file.now options.now) options.now.format result out.old out.new }
 {
     let tables = Tables::new(alloc, file.grammar(), weights)?;
-    let closed = closed_for(alloc, options.format, &tables)?;
+    write_verdicts(crew, alloc, file, &tables, options, work, out)
+}
+
+// The same by these tables.
+fn write_verdicts<'f, R: Threads + Sync, O: Sink, G: Gate + Sync>(
+    crew: &Crew<'_, R, G>,
+    alloc: Global,
+    file: &'f YaccFile,
+    tables: &'f Tables<'f>,
+    options: &Options,
+    work: &'f RenderWork<'f>,
+    out: &mut O,
+) -> Result<Counts, Halt>
+    requires file { IsFile file.now }
+    requires tables { tables.now ≡ tables_by options.now file.now work.now }
+    requires measure { IsMeasure tables.now.weights }
+    requires work { CanRender file.now work.now }
+    ensures writes { WritesManifest O.Sink
+        (IsBy work.now file.now options.now) options.now.format result out.old out.new }
+{
+    let closed = closed_for(alloc, options.format, tables)?;
     let plan = Plan {
         yacc: file,
         criteria: options.criteria,
         form: form_of(means_of(options, work, tables.pairs()), closed.as_ref()),
     };
-    let positives = Positives::new(&tables, options.criteria);
+    let positives = Positives::new(tables, options.criteria);
     write_out(crew, alloc, &plan, positives, out)
 }
 

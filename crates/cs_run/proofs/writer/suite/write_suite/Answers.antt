@@ -21,12 +21,12 @@ returns-clause-ok g c =
     subst
     (λ (choice : Choice).
     OnOk c.write_goals.result
-    (GrewByOne (IsManifest choice c.args.yacc.now) (g.O.Sink.written c.args.out.now) (g.O.Sink.written c.write_goals.new.out))) same c.write_goals.ensures.ok
+    (GrewByOne (IsManifest choice c.args.yacc.now) (g.O.Sink.written c.args.out.now) (g.O.Sink.written c.write_goals.new.out))) same c.write_goals.ensures.writes.ok
 
 pub returns-clause-counts : goal.returns-clause-counts
 returns-clause-counts g c =
     let same = parted_so c.args.options.now (scanning c.args.scanner.now) _ c.bytes.ensures.bytes in
-    subst (λ (choice : Choice). IfOk c.write_goals.result (CountsOfAll (IsManifest choice c.args.yacc.now))) same c.write_goals.ensures.counts
+    subst (λ (choice : Choice). IfOk c.write_goals.result (CountsOfAll (IsManifest choice c.args.yacc.now))) same c.write_goals.ensures.writes.counts
 
 pub returns-clause-part : goal.returns-clause-part
 returns-clause-part g c =
@@ -34,11 +34,11 @@ returns-clause-part g c =
     subst
     (λ (choice : Choice).
     OnErr c.write_goals.result
-    (GrewByPart (IsManifest choice c.args.yacc.now) (g.O.Sink.written c.args.out.now) (g.O.Sink.written c.write_goals.new.out))) same c.write_goals.ensures.part
+    (GrewByPart (IsManifest choice c.args.yacc.now) (g.O.Sink.written c.args.out.now) (g.O.Sink.written c.write_goals.new.out))) same c.write_goals.ensures.writes.part
 
 pub returns-clause-room : goal.returns-clause-room
 returns-clause-room g c =
     let same = parted_so c.args.options.now (scanning c.args.scanner.now) _ c.bytes.ensures.bytes in
     subst
     (λ (choice : Choice).
-    HasRoomForAll (IsManifest choice c.args.yacc.now) (g.O.Sink.room c.args.out.now) → g.O.Sink.faults c.write_goals.new.out ≡ g.O.Sink.faults c.args.out.now) same c.write_goals.ensures.room
+    HasRoomForAll (IsManifest choice c.args.yacc.now) (g.O.Sink.room c.args.out.now) → g.O.Sink.faults c.write_goals.new.out ≡ g.O.Sink.faults c.args.out.now) same c.write_goals.ensures.writes.room
