@@ -1,0 +1,70 @@
+#!/usr/bin/env python3
+"""Times the check of a crate behind an edit: bench/checks.py [CRATE ..].
+
+Each row is a function whose proof takes long, and the seconds by the clock that `rt check` takes once a statement was added to its body,
+beside their bound. All is done in a copy of this repository. A crate is checked before its functions are edited, which isn't timed:
+that takes seconds where a check of the same files was kept on this machine, and else minutes for each crate and those below it. It
+wants a free machine, and ends with status 1 where a bound is passed. Nothing here is part of the gate.
+"""
+
+import os
+import re
+import shutil
+import subprocess
+import sys
+import tempfile
+import time
+
+from measure import TOP, Bounds, left_out
+
+MOST_SECONDS = 60
+ADDED = "    let _edited = 0_u8;\n"
+# By crate the functions that take longest, each with its file.
+FUNCTIONS = {
+    "cs_run": [("command/command.rt", "perform"), ("command/command.rt", "fulfil"), ("writer/suite.rt", "write_goals")],
+}
+
+
+def with_statement(text, name):
+    """The text of a file with a statement more at the beginning of that function's body."""
+    found = re.search(rf"^( *)(?:pub(?:\(crate\))? )?fn {name}\b.*?^\1\{{\n", text, re.M | re.S)
+    if not found:
+        sys.exit(f"no function {name} with a body of its own lines")
+    return text[: found.end()] + found[1] + ADDED + text[found.end() :]
+
+
+def check(folder, name):
+    """Checks the crate, and answers the seconds by the clock."""
+    begin = time.monotonic()
+    done = subprocess.run(["rt", "check"], cwd=os.path.join(folder, "crates", name), capture_output=True, text=True)
+    if done.returncode:
+        sys.exit(done.stdout + done.stderr)
+    return time.monotonic() - begin
+
+
+def behind_edits(folder, name, bounds):
+    check(folder, name)
+    for file, function in FUNCTIONS[name]:
+        path = os.path.join(folder, "crates", name, "src", file)
+        with open(path) as source:
+            text = source.read()
+        with open(path, "w") as source:
+            source.write(with_statement(text, function))
+        bounds.row(f"{name}, behind an edit of {function}", check(folder, name), MOST_SECONDS, "s")
+        with open(path, "w") as source:
+            source.write(text)
+        check(folder, name)
+
+
+def main():
+    bounds = Bounds()
+    with tempfile.TemporaryDirectory() as room:
+        copy = os.path.join(room, "copy")
+        shutil.copytree(TOP, copy, ignore=left_out)
+        for name in sys.argv[1:] or FUNCTIONS:
+            behind_edits(copy, name, bounds)
+    bounds.end()
+
+
+if __name__ == "__main__":
+    main()
