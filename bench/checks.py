@@ -21,7 +21,15 @@ MOST_SECONDS = 60
 ADDED = "    let _edited = 0_u8;\n"
 # By crate the functions that take longest, each with its file.
 FUNCTIONS = {
-    "cs_run": [("command/command.rt", "perform"), ("command/command.rt", "fulfil"), ("writer/suite.rt", "write_goals")],
+    "cs_lex": [("reading/read.rt", "read_lex")],
+    "cs_check": [("checking/pass.rt", "check")],
+    "cs_member": [("chart/buckets.rt", "add_first")],
+    "cs_run": [
+        ("command/command.rt", "perform"),
+        ("command/command.rt", "fulfil"),
+        ("writer/suite.rt", "write_goals"),
+        ("writer/suite.rt", "write_verdicts"),
+    ],
 }
 
 
