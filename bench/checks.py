@@ -24,6 +24,7 @@ FUNCTIONS = {
     "cs_lex": [("reading/read.rt", "read_lex")],
     "cs_check": [("checking/pass.rt", "check")],
     "cs_member": [("chart/buckets.rt", "add_first")],
+    "cs_writing": [("writing/mutants.rt", "write_each"), ("writing/writing.rt", "write_manifest")],
     "cs_run": [
         ("command/command.rt", "perform"),
         ("command/command.rt", "fulfil"),
