@@ -17,7 +17,8 @@ from made_tree import all_of, command, damage, file, fits, lines, no_command, no
 from made_tree import source, system
 from rows import in_order
 
-LEMMA = "crates/low/proofs/more/Lemma.antt"
+WORD = "crates/low/specs/more/Word.antt"
+PROOFS = "crates/low/proofs"
 ARM = "#!/bin/sh\necho Linux aarch64\n"
 INTEL = "#!/bin/sh\necho Linux x86_64\n"
 # A find that doesn't know some word.
@@ -60,6 +61,8 @@ STEPS = [
     ("a fresh tree", same, 3, "released", []),
     ("times that are all the same", same_times, 3, "released", []),
     ("no command that reads contents", no_command("sha256sum"), 3, "released", []),
+    ("a changed proof without it", file(f"{PROOFS}/parts/part/Answers.antt", "new"), 3, "released", []),
+    ("a new proof without it", file(f"{PROOFS}/more/Lemma.antt"), 3, "released", []),
     ("a changed source without it", source("new"), 70, "", [NO_DIGESTS]),
     ("a changed source", system("sha256sum"), 70, "", [OTHER, NO_KIT]),
     ("the source as it was", source("low"), 3, "released", []),
@@ -67,8 +70,9 @@ STEPS = [
     ("that one as it was", source_of_old_time("low"), 3, "released", []),
     ("a source with another name", renamed(LIB, LIB + "s"), 70, "", [OTHER, NO_KIT]),
     ("its old name", renamed(LIB + "s", LIB), 3, "released", []),
-    ("a new folder of sources", file(LEMMA), 70, "", [OTHER, NO_KIT]),
-    ("none", none("crates/low/proofs"), 3, "released", []),
+    ("a new folder of sources", file(WORD), 70, "", [OTHER, NO_KIT]),
+    ("none", none("crates/low/specs"), 3, "released", []),
+    ("no proofs", none(PROOFS), 3, "released", []),
     ("a crate on fewer", file("crates.txt", "cs_cli: high low\nhigh: low\nlow: kit"), 70, "", [OTHER, NO_KIT]),
     ("a new crate of tests", file("crates.txt", FILES["crates.txt"] + "\ntest_high: high\n"), 3, "released", []),
     ("another edit", file("crates/low/must-fail/a.edit", "new"), 3, "released", []),

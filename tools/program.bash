@@ -27,10 +27,11 @@ add_crate() {
   crates+=("$1")
 }
 
-# What the program is built of, no tests and no edits: names with a byte 0 behind each. Words are as find has them.
+# What the program does and what it promises: no proofs, no tests and no edits. Names with a byte 0 behind each; words are
+# as find has them.
 sources() {
   local folder folders=() own=("${crates[@]/#/crates/}")
-  for folder in "${own[@]/%//src}" "${own[@]/%//specs}" "${own[@]/%//proofs}"; do
+  for folder in "${own[@]/%//src}" "${own[@]/%//specs}"; do
     [ ! -d "$folder" ] || folders+=("$folder")
   done
   find "${folders[@]}" "$@" -print0
