@@ -24,4 +24,5 @@ def main():
     bounds.end()
 
 
-main()
+if __name__ == "__main__":
+    main()

@@ -286,4 +286,5 @@ def main():
         print(f"{' and '.join(row)}: {share:.1f} % of {len(faults)} faults found, with {texts[tuple(row)]} texts", flush=True)
 
 
-main()
+if __name__ == "__main__":
+    main()

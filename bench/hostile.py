@@ -75,4 +75,5 @@ def main():
     bounds.end()
 
 
-main()
+if __name__ == "__main__":
+    main()

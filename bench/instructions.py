@@ -61,4 +61,5 @@ def main():
     bounds.end()
 
 
-main()
+if __name__ == "__main__":
+    main()

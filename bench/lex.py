@@ -159,4 +159,5 @@ def main():
     bounds.end()
 
 
-main()
+if __name__ == "__main__":
+    main()

@@ -139,4 +139,5 @@ def main():
     bounds.end()
 
 
-main()
+if __name__ == "__main__":
+    main()

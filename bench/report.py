@@ -76,4 +76,5 @@ def main():
             file.write(page.split(HEAD, 1)[0] + HEAD + "\n" + "\n".join(figures.values()))
 
 
-main()
+if __name__ == "__main__":
+    main()

@@ -29,4 +29,5 @@ def main():
     bounds.end()
 
 
-main()
+if __name__ == "__main__":
+    main()
