@@ -9,9 +9,9 @@ use cs_yacc::YaccFile;
 use std::alloc::{AllocError, Global};
 use std::test::Fail;
 
-const YACC: &[u8] = b"%%\ns : 'x' | e ;\ne : ;\n";
+pub(crate) const YACC: &[u8] = b"%%\ns : 'x' | e ;\ne : ;\n";
 
-const LEX: &[u8] = b"%%\nx return 'x';\n[ ]+ ;\n";
+pub(crate) const LEX: &[u8] = b"%%\nx return 'x';\n[ ]+ ;\n";
 
 // It has two cases, of which goals 2, 3 and 5 name the second.
 const MANIFEST: &[&[u8]] = &[
@@ -135,7 +135,11 @@ const ROWS: &[(usize, &[u8], u32, ClaimFault)] = &[
 ];
 
 // The manifest with another text of the line of this number.
-fn manifest_with(alloc: Global, number: usize, text: &[u8]) -> Result<Vec<u8>, AllocError> {
+pub(crate) fn manifest_with(
+    alloc: Global,
+    number: usize,
+    text: &[u8],
+) -> Result<Vec<u8>, AllocError> {
     let mut manifest = Vec::new(alloc);
     for (place, line) in MANIFEST.iter().enumerate() {
         manifest.extend_from_slice(if place + 1 == number { text } else { *line })?;

@@ -1,5 +1,5 @@
-//! Tests of the checker, of its closed sets and of its reading of lines, by their public calls alone. The sets were worked out by
-//! hand from their definition, the lines, the manifest and its faults from the formats.
+//! Tests of the checker, of its closed sets, of its reading of lines and of its text, by their public calls alone. The sets were
+//! worked out by hand from their definition, the lines, the manifest, its faults and the texts from the formats.
 #![tactic(auto)]
 
 #[cfg(test)]
@@ -8,3 +8,5 @@ mod checking;
 mod closed;
 #[cfg(test)]
 mod lines;
+#[cfg(test)]
+mod written;
