@@ -277,6 +277,11 @@ WRITTEN = (
     "/* The rules of INITIAL of a.l, by from_flex.\n  kept, but in no text: why:\n    4 */\n",
     "  the comment at its beginning tells which lines of a.l are left out or aren't understood: write rules for these\n",
 )
+# Scanners behind that, and the lines of texts. A make_A that from_flex left so is a function of the file's own.
+WRITTEN_RULES = [
+    ("a return give(A);\nb return give(B);\n", "  no text lexeme A\n  no text lexeme B\n"),
+    ("a /*@token not.a.token*/ return make_A(yytext);\nb return B;\n[ ] ;\n", '  no text lexeme A\n  text "b"\n'),
+]
 # Other commands on these files: a last line, and what is said of it.
 ENDINGS = [
     (
@@ -503,10 +508,11 @@ def missing_texts(folder):
         fault, told = explained(folder, ["suite", "g.y", "l.l", "--criteria=rule", "--mutate=none"], None, 0, wrote)
         if fault or told.partition("\n")[2] != wanted:
             yield fault or f"{rules!r}: {told!r}, not {wanted!r}"
-    written(folder, "l.l", f"{WRITTEN[0]}%%\n{rules}")
-    fault, told = explained(folder, ["suite", "g.y", "l.l", "--criteria=rule", "--mutate=none"], None, 0, wrote)
-    if fault or not told.endswith(WRITTEN[1]):
-        yield fault or f"{WRITTEN[0]!r}: {told!r}"
+    for rules, wrote in WRITTEN_RULES:
+        written(folder, "l.l", f"{WRITTEN[0]}%%\n{rules}")
+        fault, told = explained(folder, ["suite", "g.y", "l.l", "--criteria=rule", "--mutate=none"], None, 0, wrote)
+        if fault or not told.endswith(WRITTEN[1]):
+            yield fault or f"{WRITTEN[0]!r}, {rules!r}: {told!r}"
 
 
 def ends_of_text(folder):

@@ -58,8 +58,9 @@ def hint(key, text, at):
 RETURNED = re.compile(rb"\breturn\b[\s(]*([A-Za-z_](?:\w|\s*::\s*)*)")
 
 
-# How the comment of tools/from_flex begins where it tells of lines.
-WRITTEN = re.compile(rb"/\* The rules of \S+ of ([^\n]*), by from_flex\.\n(?!Nothing)")
+# How the comment of tools/from_flex begins, and the same where it tells of lines.
+BY_FROM_FLEX = re.compile(rb"/\* The rules of \S+ of ([^\n]*), by from_flex\.\n")
+WRITTEN = re.compile(BY_FROM_FLEX.pattern + rb"(?!Nothing)")
 # The comment of tools/start_lex in place of a rule.
 TO_FILL_IN = r"/\* %s: .*; fill in: "
 
@@ -70,6 +71,12 @@ def ends_in(grammar):
         return end_tokens(tokens(grammar))
     except Refusal:
         return set()
+
+
+def returned(text, grammar):
+    """What a scanner returns that the grammar doesn't name. A make_NAME that tools/from_flex left so isn't Bison's."""
+    found = {re.split(rb"\s*::\s*", name)[-1] for name in RETURNED.findall(text)} - {*WORD.findall(grammar)}
+    return {name for name in found if not name.startswith(b"make_")} if BY_FROM_FLEX.match(text) else found
 
 
 def of_missing(text, grammar, names):
@@ -83,8 +90,8 @@ def of_missing(text, grammar, names):
     to_fill_in = next(filter(None, (re.search((TO_FILL_IN % re.escape(name)).encode(), text) for name in names)), None)
     if to_fill_in:
         return f"a rule is to be filled in at {'line %d, column %d' % place(text, to_fill_in.start())}"
-    given = {re.split(rb"\s*::\s*", found)[-1] for found in RETURNED.findall(text)} - {*WORD.findall(grammar)}
-    pairs = ((found.decode(), name) for name in names for found in sorted(given) if found.endswith(name.encode()))
+    given = sorted(returned(text, grammar))
+    pairs = ((found.decode(), name) for name in names for found in given if found.endswith(name.encode()))
     found, name = next(pairs, (None, None))
     if found:
         call = "`tools/from_flex FILE GRAMMAR.y` with Bison's own grammar"
