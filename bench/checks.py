@@ -3,8 +3,8 @@
 
 Each row is a function whose proof takes long, and the seconds by the clock that `rt check` takes once a statement was added to its body,
 beside their bound. All is done in a copy of this repository. A crate is checked before its functions are edited, which isn't timed:
-that takes seconds where a check of the same files was kept on this machine, and else minutes for each crate and those below it. It
-wants a free machine, and ends with status 1 where a bound is passed. Nothing here is part of the gate.
+that takes seconds where `rt check` was run in its folder here, and else minutes for it and for each crate below. It wants a free
+machine, and ends with status 1 where a bound is passed. Nothing here is part of the gate.
 """
 
 import os
@@ -21,9 +21,17 @@ MOST_SECONDS = 60
 ADDED = "    let _edited = 0_u8;\n"
 # By crate the functions that take longest, each with its file.
 FUNCTIONS = {
+    "cs_pattern": [("text/definitions.rt", "check")],
+    "cs_scanner": [("scanning/comparing.rt", "advance")],
+    "cs_yacc": [("reading/read.rt", "meaning"), ("reading/gather.rt", "tokens")],
     "cs_lex": [("reading/read.rt", "read_lex")],
+    "cs_pairs": [("pairs/pairs.rt", "new")],
     "cs_check": [("checking/pass.rt", "check")],
     "cs_member": [("chart/buckets.rt", "add_first")],
+    "cs_manifest": [("filling/open.rt", "new")],
+    "cs_words": [("setting.rt", "read_option")],
+    "cs_chain_text": [("writing/writing.rt", "tell")],
+    "cs_wrong": [("writing/writing.rt", "write_slips")],
     "cs_writing": [("writing/mutants.rt", "write_each"), ("writing/writing.rt", "write_manifest")],
     "cs_run": [
         ("command/command.rt", "perform"),
@@ -51,8 +59,19 @@ def check(folder, name):
     return time.monotonic() - begin
 
 
+def put_back(kept, state):
+    shutil.rmtree(state, ignore_errors=True)
+    shutil.copytree(kept, state, symlinks=True)
+
+
 def behind_edits(folder, name, bounds):
+    """Each edit is checked behind what was kept of the crate without one."""
+    state, kept = os.path.join(folder, "crates", name, "out", "incremental"), os.path.join(folder, "kept")
+    here = os.path.join(TOP, "crates", name, "out", "incremental")
+    if os.path.isdir(here):
+        put_back(here, state)
     check(folder, name)
+    put_back(state, kept)
     for file, function in FUNCTIONS[name]:
         path = os.path.join(folder, "crates", name, "src", file)
         with open(path) as source:
@@ -62,7 +81,7 @@ def behind_edits(folder, name, bounds):
         bounds.row(f"{name}, behind an edit of {function}", check(folder, name), MOST_SECONDS, "s")
         with open(path, "w") as source:
             source.write(text)
-        check(folder, name)
+        put_back(kept, state)
 
 
 def main():
