@@ -11,6 +11,7 @@
 //! `specs/Text/Stages.antt`, `specs/Text/Needed.antt`.
 
 mod checking;
+mod compiling;
 mod definitions;
 mod fault;
 mod laws;

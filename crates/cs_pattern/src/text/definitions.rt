@@ -6,11 +6,8 @@ ghost use Rattle.cs_pattern.specs.Text.Checking.{AreAccepted, RefusesDefinitions
 ghost use Rattle.cs_pattern.specs.Operations.Definitions.{has_name, total_bytes};
 
 use crate::operations::{Measure, Op, Texts, index_of};
-use crate::text::checking::{
-    check_limits, check_names, measure_all, operations, places_of, read_all,
-};
+use crate::text::compiling::{Compiled, compile};
 use crate::text::fault::{CheckError, DefinitionError};
-use crate::text::uses::{graph_of, order_of};
 use indexmap::IndexMap;
 use std::alloc::Global;
 use std::marker::Model;
@@ -100,14 +97,12 @@ impl Definitions {
         ensures refused { IfErr result (RefusesDefinitions self) }
     {
         let Definitions { alloc, texts } = self;
-        let items = read_all(alloc, &texts)?;
-        check_names(&items, &texts)?;
-        let graph = graph_of(alloc, &items, &texts)?;
-        let order = order_of(alloc, &items, &texts, &graph)?;
-        let bodies = operations(alloc, &items, &texts)?;
-        let measures = measure_all(alloc, &bodies, &order)?;
-        check_limits(&measures)?;
-        let places = places_of(alloc, &order, &texts)?;
+        let Compiled {
+            bodies,
+            measures,
+            order,
+            places,
+        } = compile(alloc, &texts)?;
         Ok(Checked {
             texts,
             bodies,

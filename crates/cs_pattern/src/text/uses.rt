@@ -72,7 +72,7 @@ fn uses_of(alloc: Global, items: &[Placed], names: &Texts) -> Result<Vec<usize>,
 }
 
 /// For each definition those that it uses.
-pub(crate) fn graph_of(
+fn graph_of(
     alloc: Global,
     all: &[Vec<Placed>],
     names: &Texts,
@@ -143,19 +143,18 @@ pub(crate) fn order_of(
     alloc: Global,
     all: &[Vec<Placed>],
     names: &Texts,
-    graph: &[Vec<usize>],
 ) -> Result<Vec<usize>, CheckError>
     requires bytes { total_bytes (definitions_of names.now.entries) ≤ most_bytes }
     requires read { AreRead (definitions_of names.now.entries) all.now }
     requires named { AreNamed (definitions_of names.now.entries) all.now }
-    requires graph { IsUseGraph (definitions_of names.now.entries) graph.now }
     ensures order { IfOk result (λ order. IsOrder (definitions_of names.now.entries) order.items) }
     ensures no_cycle { OnOk result (HasNoCycle (definitions_of names.now.entries)) }
     ensures refused { IfErr result (RefusesDefinitions (definitions_of names.now.entries)) }
 {
-    if let Some(order) = order(alloc, graph)? {
+    let graph = graph_of(alloc, all, names)?;
+    if let Some(order) = order(alloc, &graph)? {
         return Ok(order);
     }
-    check_cycles(alloc, all, names, graph)?;
+    check_cycles(alloc, all, names, &graph)?;
     unreachable!()
 }
