@@ -17,7 +17,7 @@
 //!
 //! # What is only tested
 //!
-//! That the call answers where memory is ample, and what it writes of worked rows: by `test_command`.
+//! That the call answers where memory is ample, and what it writes of worked rows: by `test_check`, and by `test_command` in whole commands.
 #![tactic(auto)]
 
 mod laws;
