@@ -392,6 +392,92 @@ WITH_GRAMMAR = [
     ),
 ]
 
+# A grammar of Bison's C++ parsers, and the code of a scanner, as that of the example calc++ in Bison's manual has it.
+SYMBOLS_GRAMMAR = """%skeleton "lalr1.cc"
+%define api.token.constructor
+%define api.value.type variant
+%define api.token.prefix {TOK_}
+%token END 0 NUMBER PLUS "+" ':' UNUSED
+%%
+s : NUMBER "+" NUMBER ':' END ;
+"""
+SYMBOLS_CODE = """%{
+yy::parser::symbol_type make_NUMBER (const std::string &s, const yy::parser::location_type& loc);
+typedef yy::parser Calc;
+using Same = Calc;
+using Other = yy::helper;
+#define OWN(x) yy::parser::make_ ## x (loc)
+#define make_END(x) make_END (x, 0)
+%}
+"""
+# Actions, and the token that they give, or None and what the line proposes; by "Complete Symbols" of Bison's manual: a `make_`
+# has the name without the prefix, `symbol_type` the token with it. By C++ these are members of the parser class alone.
+SYMBOLS = [
+    ("return yy::parser::make_NUMBER (strtol (yytext, 0, 10), loc);", "NUMBER"),
+    ("return yy::parser::make_PLUS(loc);", "PLUS"),
+    ("return ::yy :: parser::make_PLUS ();", "PLUS"),
+    ("return parser::make_PLUS (loc);", "PLUS"),
+    ("return Calc::make_PLUS (loc);", "PLUS"),
+    ("return Same::make_PLUS (loc);", "PLUS"),
+    ("return OWN (PLUS);", "PLUS"),
+    ("{ if (x) throw yy::parser::syntax_error (loc, std::string(yytext)); return yy::parser::make_NUMBER (n, loc); }", "NUMBER"),
+    ("{ if (x) return yy::parser::make_PLUS (loc); return yy::parser::symbol_type (token::TOK_PLUS, loc); }", "PLUS"),
+    ("return yy::parser::symbol_type (yy::parser::token::TOK_PLUS, loc);", "PLUS"),
+    ("return yy::parser::symbol_type (yy::parser::token::TOK_NUMBER, f(1, 2), loc);", "NUMBER"),
+    ("return yy::parser::symbol_type ((int) TOK_NUMBER, 1, loc);", "NUMBER"),
+    ("return Calc::symbol_type (token::yytokentype::TOK_PLUS);", "PLUS"),
+    ("return yy::parser::symbol_type (':', loc);", "':'"),
+    # Without the class it may be any function, as that of calc++.
+    ("return make_NUMBER (yytext, loc);", None, "NUMBER"),
+    ("return make_PLUS (loc);", None, "PLUS"),
+    ("return helper::make_PLUS (loc);", None, "PLUS"),
+    ("return Other::make_PLUS (loc);", None, "PLUS"),
+    ("return yy::make_PLUS (loc);", None, "PLUS"),
+    ("return yy::parser::helper::make_PLUS (loc);", None, "PLUS"),
+    ("return driver.make_PLUS (loc);", None, "PLUS"),
+    ("return symbol_type (token::TOK_PLUS, loc);", None, "PLUS"),
+    # Names with the prefix where there is none, without it where there is one, and what has other numbers.
+    ("return yy::parser::make_TOK_PLUS (loc);", None, "PLUS"),
+    ("return yy::parser::symbol_type (token::PLUS, loc);", None, None),
+    ("return yy::parser::symbol_type (yy::parser::symbol_kind::S_PLUS, loc);", None, None),
+    ("return yy::parser::symbol_type (yy::parser::symbol_kind::TOK_PLUS, loc);", None, "PLUS"),
+    ("return yy::parser::symbol_type (lookup (yytext), loc);", None, None),
+    ("return yy::parser::symbol_type (x ? token::TOK_PLUS : token::TOK_NUMBER, loc);", None, "NUMBER"),
+    ("return yy::parser::symbol_type ((char) TOK_PLUS, loc);", None, "PLUS"),
+    ("return yy::parser::symbol_type ();", None, None),
+    # Macros of that name, and what isn't returned, or on some ways alone.
+    ("return yy::parser::make_END (loc);", None, None),
+    ("return f (yy::parser::make_PLUS (loc));", None, "PLUS"),
+    ("return x ? yy::parser::make_PLUS (loc) : yy::parser::make_PLUS (loc);", None, "PLUS"),
+    ("{ if (x) return yy::parser::make_PLUS (loc); }", None, "PLUS"),
+    ("{ if (x) return yy::parser::make_NUMBER (1, loc); return yy::parser::make_PLUS (loc); }", None, "PLUS"),
+    ("{ yyless (1); return yy::parser::make_PLUS (loc); }", None, "PLUS"),
+    ("{ queue (yy::parser::make_PLUS (loc)); }", None, "PLUS"),
+]
+# Without the grammar: those that are read without its class, and what is advised of the others.
+NO_GRAMMAR = ", or name the grammar too, which has the names of Bison's tokens: "
+WITHOUT_GRAMMAR = [
+    ("return yy::parser::make_PLUS (loc);", "PLUS", ""),
+    ("return make_NUMBER (yytext, loc);", None, NO_GRAMMAR),
+    ("return yy::parser::symbol_type (token::TOK_PLUS, loc);", None, NO_GRAMMAR),
+    ("return make_pair (a, b);", None, "gives: "),
+    ("{ if (x) return yy::parser::make_PLUS (loc); }", None, ", as /*@token PLUS*/: "),
+    ("return yy::parser::symbol_type (*yytext, loc);", None, ", or write `return yytext[0];` where it gives its own byte: "),
+]
+# What a grammar calls its class, code of the scanner, and whether the action's class is that.
+CLASSES = [
+    ("%define api.parser.class {Calc}\n", "", "calc::Calc", True),
+    ("%define api.parser.class {Calc}\n", "", "yy::parser", False),
+    ('%define parser_class_name "Calc"\n', "", "yy::Calc", True),
+    ("%define parser_class_name Calc\n", "", "yy::Calc", True),
+    ("%define api.parser.class {Calc}\n", "using parser = calc::Calc;", "parser", True),
+    ("", "using parser = calc::Calc;", "parser", False),
+    ("", "namespace parser { int f(); }", "parser", False),
+    ("", "// typedef yy::parser P;", "P", False),
+    ("", "#define P yy::parser", "P", True),
+    ("", "class Calc : yy::parser { };", "Calc", False),
+]
+
 
 def rule_lines(folder, text):
     """What from_flex writes of a file, without its first comment."""
@@ -551,6 +637,54 @@ def grammar_rows(folder):
         yield f"a refused grammar: {status}, {out!r}, {said!r}"
 
 
+def marked_so(action, token):
+    return f"a /*@token {token}*/ {action}" if token else f"a {action}"
+
+
+def symbol_rows(folder):
+    """Symbols of Bison's C++ parsers are read where a grammar has their tokens; for others the line proposes one."""
+    written(folder, "g.y", SYMBOLS_GRAMMAR)
+    written(folder, "l.l", SYMBOLS_CODE + "%%\n" + "".join(f"a {action}\n" for action, *_ in SYMBOLS))
+    status, out, said = tool(folder, "from_flex", "l.l", "g.y")
+    lines, first = out.partition("%%\n")[2].splitlines(), SYMBOLS_CODE.count("\n") + 2
+    for line, (found, (action, token, *proposed)) in enumerate(zip(lines, SYMBOLS), first):
+        told = [text for text in said.splitlines() if text.startswith(f"from_flex: l.l:{line}:1: ")]
+        advice = f", as /*@token {proposed[0]}*/" if any(proposed) else ""
+        wanted = [] if token else [f"from_flex: l.l:{line}:1: {KEPT}{advice}: a {action}"]
+        is_foreign = found in (marked_so(action, None), marked_so(action, "not.a.token"))
+        if status or told != wanted or not (found == marked_so(action, token) if token else is_foreign):
+            yield f"{action}: {status}, {found!r}, {told}"
+    if len(lines) != len(SYMBOLS):
+        yield f"symbols: {status}, {len(lines)} lines, {said}"
+
+
+def plain_symbol_rows(folder):
+    """What is said of such symbols without a grammar; and a symbol of the match's own byte."""
+    for action, token, told in WITHOUT_GRAMMAR:
+        status, out, said = rule_lines(folder, f"%%\na {action}\n")
+        is_said = said == [] if token else len(said) == 1 and f"{told}a {action}" in said[0]
+        if status or out != f"%%\n{marked_so(action, token)}\n" or not is_said:
+            yield f"{action} without a grammar: {status}, {out!r}, {said}"
+    written(folder, "g.y", SYMBOLS_GRAMMAR)
+    written(folder, "l.l", "%%\n[:] return yy::parser::symbol_type (yytext[0], loc);\n")
+    status, out, _ = tool(folder, "from_flex", "l.l", "g.y")
+    if status or not re.fullmatch(r"\[:\] return yytext\[0\] *;\n", out.partition("%%\n")[2]):
+        yield f"a symbol of a byte: {status}, {out!r}"
+
+
+def class_rows(folder):
+    """The class that a grammar names, and what the code calls it."""
+    for declared, code, name, is_read in CLASSES:
+        action = f"return {name}::make_A (loc);"
+        written(folder, "g.y", f"{declared}%token A\n%%\ns : A ;\n")
+        written(folder, "l.h", code)
+        for words, text in ((["l.l"], f"%{{\n{code}\n%}}\n"), (["--header", "l.h", "l.l"], "")):
+            written(folder, "l.l", f"{text}%%\na {action}\n")
+            status, out, said = tool(folder, "from_flex", *words, "g.y")
+            if status or out.partition("%%\n")[2] != marked_so(action, is_read and "A") + "\n":
+                yield f"{declared!r}, {code!r}, {words}: {status}, {out!r}, {said}"
+
+
 def condition_rows(folder):
     """The rules of a start condition, which are those without any too where it is inclusive."""
     written(folder, "l.l", CONDITIONS)
@@ -582,8 +716,9 @@ def bad_calls(folder):
 
 def main():
     failed = []
-    of_files = (file_rows, action_rows, macro_rows, header_rows, function_rows, grammar_rows, condition_rows)
-    for rows in (pattern_rows, match_rows, flex_rows, *of_files, bad_calls):
+    of_files = (file_rows, action_rows, macro_rows, header_rows, function_rows, grammar_rows)
+    of_symbols = (symbol_rows, plain_symbol_rows, class_rows)
+    for rows in (pattern_rows, match_rows, flex_rows, *of_files, *of_symbols, condition_rows, bad_calls):
         with tempfile.TemporaryDirectory() as folder:
             failed += rows(folder)
     if not BUILT:

@@ -135,10 +135,21 @@ def in_use(text):
     return list(found.values())
 
 
-def prefix(text):
-    """What stands before the names of tokens in the scanner, and not in the grammar: `%define api.token.prefix {..}`."""
+def defined(text, *names):
+    """What a grammar's `%define` says for one of these names, or None."""
     listed = tokens(text)
     for directive, name, value in zip(listed, listed[1:], listed[2:]):
-        if (directive.word, name.text) == ("%define", b"api.token.prefix") and value.kind in ("block", "string"):
-            return value.text[1:-1].strip()
-    return b""
+        is_value = value.kind in ("block", "string", "name")
+        if directive.word == "%define" and name.text in names and is_value:
+            return value.text.strip(b'{}"').strip()
+    return None
+
+
+def prefix(text):
+    """What stands before the names of tokens in the scanner, and not in the grammar."""
+    return defined(text, b"api.token.prefix") or b""
+
+
+def parser_class(text):
+    """The name of the class that Bison writes in C++."""
+    return defined(text, b"api.parser.class", b"parser_class_name") or b"parser"

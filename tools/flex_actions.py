@@ -6,6 +6,7 @@ from typing import NamedTuple
 from flex_flow import always_returns
 from flex_macros import blanked, without_text
 from flex_sight import functions, unseen
+from flex_symbols import call_of
 from plain import ITEM
 
 # A word of these makes an action foreign wherever it stands in it.
@@ -33,9 +34,10 @@ OWN_BYTE = re.compile(rb"yytext\s*\[\s*0\s*\]|\*\s*yytext")
 TYPES = rb"(?:const|unsigned|signed|int|short|long|char|enum|(?:\w+::)*(?:yytokentype|token_type|token_kind_type|yytoken_kind_t))\b"
 CAST = re.compile(rb"\(\s*(?:" + TYPES + rb"\s*)+\)\s*(?=[\w('*:])|static_cast\s*<\s*(?:" + TYPES + rb"\s*)+>\s*(?=\()")
 ASSIGNMENT = re.compile(rb"(?<![=!<>+*/%&|^-])=(?!=)")
-# A name of C++'s, and Bison's own function that makes a token; without `::` it may be any function.
+# A name of C++'s.
 QUALIFIED = re.compile(rb"(?:::\s*)?((?:[A-Za-z_]\w*\s*::\s*)*)([A-Za-z_]\w*)")
-MADE = re.compile(rb"(?:::\s*)?(?:[A-Za-z_]\w*\s*::\s*)+make_([A-Za-z_]\w*)\s*\(")
+# Where a grammar would tell more: what may be a call of Bison's C++ parsers.
+MAKES = re.compile(rb"\breturn\b[^;]*\b(?:make_[A-Z]\w*|symbol_type)\s*[({]")
 
 
 class Gives(NamedTuple):
@@ -140,20 +142,41 @@ def simplest(value):
             return value, is_narrow
 
 
-def token_of(value, prefix):
+def token_of(value, macros, symbols):
     """What is given where this value is returned. Names of tokens begin with the prefix in C, and not in the grammar."""
     value, is_narrow = simplest(value)
+    call, name = call_of(value), QUALIFIED.fullmatch(value)
+    if call:
+        return made_by(call, macros, symbols)
+    return Gives("token", (name[2].removeprefix(symbols.prefix),)) if name and not is_narrow else of_byte(value)
+
+
+def of_byte(value):
+    """What a byte of the match, or a literal, gives."""
     if OWN_BYTE.fullmatch(value):
         return BYTE
-    if LITERAL.fullmatch(value):
-        return of_name(value)
-    made, name = MADE.match(value), QUALIFIED.fullmatch(value)
-    if made and inner(value[made.end() - 1 :]) != value[made.end() - 1 :] and b"(" not in value[: made.end() - 1]:
-        return Gives("token", (made[1],)) if value.endswith(b")") else UNKNOWN
-    return Gives("token", (name[2].removeprefix(prefix),)) if name and not is_narrow else UNKNOWN
+    return of_name(value) if LITERAL.fullmatch(value) else UNKNOWN
 
 
-def gives(action, macros, prefix):
+def made_by(call, macros, symbols):
+    """The token of the symbol that a call makes. Without the parser class before its name it may be any function."""
+    if not symbols.are_of(call.scope) or symbols.parsers and call.name in macros.found:
+        return UNKNOWN
+    if call.name == b"symbol_type" and symbols.parsers:
+        return numbered_by(call.arguments[0], symbols)
+    made = call.name.removeprefix(b"make_")
+    return Gives("token", (made,)) if made != call.name and symbols.is_made(made) else UNKNOWN
+
+
+def numbered_by(value, symbols):
+    """The token with this number, as a grammar has it."""
+    value, is_narrow = simplest(value)
+    name = QUALIFIED.fullmatch(value)
+    token = symbols.numbered(WORD.findall(name[1]), name[2]) if name and not is_narrow else None
+    return Gives("token", (token,)) if token else of_byte(value)
+
+
+def gives(action, macros, symbols):
     """What an action of flex's gives, with the macros put in: that is known where it returns on each way and each `return` gives the
     same, or where it never returns."""
     mark = MARK.search(action)
@@ -162,7 +185,7 @@ def gives(action, macros, prefix):
     code = macros.spelled_out(action)
     ends = [found.end() for found in re.finditer(rb"\breturn\b", without_literals(code))]
     values = [operand(code, end) for end in ends]
-    found = [UNKNOWN if value is None else token_of(value, prefix) for value in values]
+    found = [UNKNOWN if value is None else token_of(value, macros, symbols) for value in values]
     is_sure = not found or len({*found}) == 1 and always_returns(code)
     if changing(code) or not macros.changing.isdisjoint(WORD.findall(code)) or not is_sure:
         return Gives("unknown", tuple(dict.fromkeys(name for given in found for name in given.names)))
@@ -171,9 +194,10 @@ def gives(action, macros, prefix):
     return found[0] if found else SKIP
 
 
-def named_tokens(action, macros, tokens):
-    """The tokens that an action names, in its order; `tokens` has them by their names in the scanner."""
-    return tuple(dict.fromkeys(tokens[word] for word in WORD.findall(macros.spelled_out(action)) if word in tokens))
+def named_tokens(action, macros, symbols):
+    """The tokens that an action names, in its order."""
+    named = map(symbols.named, WORD.findall(macros.spelled_out(action)))
+    return tuple(dict.fromkeys(token for token in named if token))
 
 
 def hiding(action, macros, given):
@@ -184,17 +208,17 @@ def hiding(action, macros, given):
     return found if given == SKIP else [use for use in found if b"return" in use.name.lower()]
 
 
-def gives_of(action, macros, prefix, tokens):
+def gives_of(action, macros, symbols):
     """What an action gives, beside a grammar's tokens: one that returns nothing may return a token in a macro that is defined
     elsewhere. What isn't understood may be a token that it names."""
-    given = gives(action, macros, prefix)
+    given = gives(action, macros, symbols)
     hidden = hiding(action, macros, given)
     if MARK.search(action) or not hidden and (given.names or given.kind not in ("skip", "unknown")):
         return given
-    named = named_tokens(action, macros, tokens)
+    named = named_tokens(action, macros, symbols)
     if named or not hidden:
         return Gives("unknown", named) if named else given
-    likely = () if tokens else tuple(name for use in hidden for name in use.tokens)
+    likely = () if symbols.tokens else tuple(name for use in hidden for name in use.tokens)
     return Gives("unknown", tuple(dict.fromkeys([*given.names, *likely])))
 
 
