@@ -334,7 +334,7 @@ WITH_GRAMMAR = [
         "%define api.token.prefix {T_}\n%token A B \"b\" C\n%%\ns : A \"b\" | error C ;\n",
         "a return T_A;\nb return yy::parser::make_B(loc);\nc return token::T_C;\n",
         "a /*@token A*/ return T_A;\nb /*@token B*/ return yy::parser::make_B(loc);\nc /*@token C*/ return token::T_C;\n",
-        "",
+        "from_flex: l.l: no sentence has these tokens, so what gives them is in no text: C, line 4\n",
     ),
     # What returns may be a macro that is defined elsewhere: a token is named, and that tells.
     (
@@ -389,6 +389,15 @@ WITH_GRAMMAR = [
         "a return A;\nb check(); /*@token B*/\nc ;\n",
         "a return A;\nb check(); /*@token B*/\nc ;\n",
         "from_flex: l.l: no rule gives these tokens, so sentences with them have no text: C, D\n",
+    ),
+    # Rules may give what the grammar doesn't use: by a mistake, or as a refusal.
+    (
+        "%define api.token.prefix {T_}\n%token A B\n%%\ns : A ;\n",
+        "a return T_A;\nb return T_B;\nc { auto c = f(); return c; }\nd return T_B;\ne return '-';\nf return T_YYUNDEF;\n"
+        "g /*@token not.a.token*/ return T_G;\n[+] return yytext[0];\n[ ] ;\n",
+        "a /*@token A*/ return T_A;\nb /*@token B*/ return T_B;\nc { auto c = f(); return c; }\nd /*@token B*/ return T_B;\n"
+        "e return '-';\nf /*@token YYUNDEF*/ return T_YYUNDEF;\ng /*@token not.a.token*/ return T_G;\n[+] return yytext[0];\n[ ] ;\n",
+        "from_flex: l.l: no sentence has these tokens, so what gives them is in no text: B, lines 3, 5; c, line 4\n",
     ),
 ]
 

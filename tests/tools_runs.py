@@ -275,7 +275,8 @@ MISSING = [
 # What from_flex writes before a scanner, and the hint then.
 WRITTEN = (
     "/* The rules of INITIAL of a.l, by from_flex.\n  kept, but in no text: why:\n    4 */\n",
-    "  the comment at its beginning tells which lines of a.l are left out or aren't understood: write rules for these\n",
+    "  the comment at its beginning tells which lines of a.l are left out or aren't understood: write rules for the "
+    "former, and /*@token NAME*/ into actions of the latter\n",
 )
 # Scanners behind that, and the lines of texts. A make_A that from_flex left so is a function of the file's own.
 WRITTEN_RULES = [

@@ -100,5 +100,5 @@ def of_missing(text, grammar, names):
     if source:
         name = source[1].decode(errors="replace")
         told = f"the comment at its beginning tells which lines of {name} are left out or aren't understood"
-        return f"{told}: write rules for these"
+        return f"{told}: write rules for the former, and /*@token NAME*/ into actions of the latter"
     return "`tools/from_flex FILE GRAMMAR` says which actions aren't understood, and what may stand in them"
