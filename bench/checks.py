@@ -21,7 +21,7 @@ MOST_SECONDS = 60
 ADDED = "    let _edited = 0_u8;\n"
 # By crate the functions that take longest, each with its file.
 FUNCTIONS = {
-    "cs_pattern": [("text/definitions.rt", "check")],
+    "cs_pattern": [("text/definitions.rt", "check"), ("text/compiling.rt", "compile_items")],
     "cs_scanner": [("scanning/comparing.rt", "advance")],
     "cs_yacc": [("reading/read.rt", "meaning"), ("reading/gather.rt", "tokens")],
     "cs_lex": [("reading/read.rt", "read_lex")],
