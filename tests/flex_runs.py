@@ -393,11 +393,11 @@ WITH_GRAMMAR = [
     # Rules may give what the grammar doesn't use: by a mistake, or as a refusal.
     (
         "%define api.token.prefix {T_}\n%token A B\n%%\ns : A ;\n",
-        "a return T_A;\nb return T_B;\nc { auto c = f(); return c; }\nd return T_B;\ne return '-';\nf return T_YYUNDEF;\n"
+        "a return T_A;\nb return T_B;\nc return other;\nd return T_B;\ne return '-';\nf return T_YYUNDEF;\n"
         "g /*@token not.a.token*/ return T_G;\n[+] return yytext[0];\n[ ] ;\n",
-        "a /*@token A*/ return T_A;\nb /*@token B*/ return T_B;\nc { auto c = f(); return c; }\nd /*@token B*/ return T_B;\n"
+        "a /*@token A*/ return T_A;\nb /*@token B*/ return T_B;\nc return other;\nd /*@token B*/ return T_B;\n"
         "e return '-';\nf /*@token YYUNDEF*/ return T_YYUNDEF;\ng /*@token not.a.token*/ return T_G;\n[+] return yytext[0];\n[ ] ;\n",
-        "from_flex: l.l: no sentence has these tokens, so what gives them is in no text: B, lines 3, 5; c, line 4\n",
+        "from_flex: l.l: no sentence has these tokens, so what gives them is in no text: B, lines 3, 5; other, line 4\n",
     ),
 ]
 
@@ -485,6 +485,36 @@ CLASSES = [
     ("", "// typedef yy::parser P;", "P", False),
     ("", "#define P yy::parser", "P", True),
     ("", "class Calc : yy::parser { };", "Calc", False),
+]
+
+FOLLOWED_GRAMMAR = "%define api.token.prefix {T_}\n%token A B NAME\n%%\ns : A B NAME ;\n"
+# An action, code of the scanner, the token that is read with the grammar and else None, and the token that the line proposes.
+FOLLOWED = [
+    ("return f();", "int f() { count(); return T_A; }", "A"),
+    ("return f(x);", "int f(int x) { if (x) { return (T_A); } else return T_A; }", "A"),
+    ("return f();", "static int f(void)\n{\n#ifdef X\n  return T_A;\n#else\n  return T_A;\n#endif\n}", "A"),
+    ("return f();", "int g() { return '{'; }\nint f() { return T_A; }", "A"),
+    ("return make_NAME(yytext);", "P make_NAME(char *s) { if (!s) throw s; return yy::parser::make_NAME(s); }", "NAME"),
+    ("return f(x);", "int f(int x) { if (x) return T_A; return T_B; }", None, "B"),
+    ("return f(x);", "int f(int x) { if (x) return T_A; }", None, "A"),
+    ("return f(x);", "int f(int x) { return T_A; }\nint f(char *x) { return T_B; }", None, "B"),
+    ("return f();", "int f() { BEGIN(X); return T_A; }", None, "A"),
+    ("return f(T_A);", "int f(int t) { return t; }", None, "A"),
+    ("{ int T_A = f(); return T_A; }", "", None, "A"),
+    ("return f();", "int f() { int T_A = g(); return T_A; }", None),
+    ("return f(x);", "int f(int T_A) { return T_A; }", None),
+    ("return f();", "int f() { return T_C; }", None),
+    ("return f();", "int f() { return g(); }\nint g() { return T_A; }", None),
+    ("return f();", "struct S { int f() { return T_A; } };", None),
+    ("return f();", "int S::f() { return T_A; }", None),
+    ("return x ? f() : f();", "int f() { return T_A; }", None),
+    ("return f();", "int f();", None),
+]
+# The same without a grammar: the action, the code, and the token that the line proposes.
+FOLLOWED_ALONE = [
+    ("return f();", "int f() { return A; }", "A"),
+    ("return f(x);", "int f(int x) { if (x) return TYPE; return NAME; }", "NAME"),
+    ("return f();", "int f() { return result; }", None),
 ]
 
 
@@ -694,6 +724,22 @@ def class_rows(folder):
                 yield f"{declared!r}, {code!r}, {words}: {status}, {out!r}, {said}"
 
 
+def followed_rows(folder):
+    """A function of the file that returns one token of the grammar, and nothing else, gives that."""
+    written(folder, "g.y", FOLLOWED_GRAMMAR)
+    for files, (action, code, token, *proposed) in [
+        *((("l.l", "g.y"), row) for row in FOLLOWED),
+        *((("l.l",), (action, code, None, proposed)) for action, code, proposed in FOLLOWED_ALONE),
+    ]:
+        written(folder, "l.l", f"%%\na {action}\n%%\n{code}\n")
+        status, out, said = tool(folder, "from_flex", *files)
+        found, told = out.partition("%%\n")[2].partition("\n%%\n")[0], said.partition("\n")[0]
+        advice = f", as /*@token {proposed[0]}*/" if any(proposed) else ""
+        is_told = told == f"from_flex: l.l:2:1: {KEPT}{advice}: a {action}"
+        if status or (found != marked_so(action, token) if token else not is_told):
+            yield f"{action} with {code}: {status}, {found!r}, {said!r}"
+
+
 def condition_rows(folder):
     """The rules of a start condition, which are those without any too where it is inclusive."""
     written(folder, "l.l", CONDITIONS)
@@ -726,7 +772,7 @@ def bad_calls(folder):
 def main():
     failed = []
     of_files = (file_rows, action_rows, macro_rows, header_rows, function_rows, grammar_rows)
-    of_symbols = (symbol_rows, plain_symbol_rows, class_rows)
+    of_symbols = (symbol_rows, plain_symbol_rows, class_rows, followed_rows)
     for rows in (pattern_rows, match_rows, flex_rows, *of_files, *of_symbols, condition_rows, bad_calls):
         with tempfile.TemporaryDirectory() as folder:
             failed += rows(folder)

@@ -36,6 +36,8 @@ CAST = re.compile(rb"\(\s*(?:" + TYPES + rb"\s*)+\)\s*(?=[\w('*:])|static_cast\s
 ASSIGNMENT = re.compile(rb"(?<![=!<>+*/%&|^-])=(?!=)")
 # A name of C++'s.
 QUALIFIED = re.compile(rb"(?:::\s*)?((?:[A-Za-z_]\w*\s*::\s*)*)([A-Za-z_]\w*)")
+# A name behind a type, or behind a star of it.
+DECLARES = rb"\b(?!(?:return|case|else|goto|throw)\b)[A-Za-z_]\w*(?:\s|[*&])+%s\s*(?=[=;,)\[{])"
 # Where a grammar would tell more: what may be a call of Bison's C++ parsers.
 MAKES = re.compile(rb"\breturn\b[^;]*\b(?:make_[A-Z]\w*|symbol_type)\s*[({]")
 
@@ -142,10 +144,12 @@ def simplest(value):
             return value, is_narrow
 
 
-def token_of(value, macros, symbols):
+def token_of(value, macros, symbols, bodies):
     """What is given where this value is returned. Names of tokens begin with the prefix in C, and not in the grammar."""
     value, is_narrow = simplest(value)
     call, name = call_of(value), QUALIFIED.fullmatch(value)
+    if call and not call.scope and call.name in bodies:
+        return of_function(bodies[call.name], macros, symbols)
     if call:
         return made_by(call, macros, symbols)
     return Gives("token", (name[2].removeprefix(symbols.prefix),)) if name and not is_narrow else of_byte(value)
@@ -156,6 +160,15 @@ def of_byte(value):
     if OWN_BYTE.fullmatch(value):
         return BYTE
     return of_name(value) if LITERAL.fullmatch(value) else UNKNOWN
+
+
+def of_function(bodies, macros, symbols):
+    """What a function of the file gives: known where all that it returns is one token of a grammar's."""
+    codes = [macros.spelled_out(body) for body in bodies]
+    found = dict.fromkeys(given for code in codes for given in returned(code, macros, symbols, {}))
+    names = [name for given in found for name in given.names if symbols.may_be(name)]
+    is_sure = len(found) == 1 and symbols.tokens and names and all(map(always_returns, codes))
+    return Gives("token" if is_sure else "unknown", tuple(names))
 
 
 def made_by(call, macros, symbols):
@@ -176,6 +189,20 @@ def numbered_by(value, symbols):
     return Gives("token", (token,)) if token else of_byte(value)
 
 
+def returned(code, macros, symbols, bodies):
+    """What each `return` of code gives, where functions with these bodies are followed."""
+    ends = [found.end() for found in re.finditer(rb"\breturn\b", without_literals(code))]
+    values = [operand(code, end) for end in ends]
+    is_known = [value is not None and not is_declared(value, code) for value in values]
+    return [token_of(value, macros, symbols, bodies) if known else UNKNOWN for value, known in zip(values, is_known)]
+
+
+def is_declared(value, code):
+    """Whether a value is a name that the code itself declares, so that it is no token's there."""
+    name = QUALIFIED.fullmatch(simplest(value)[0])
+    return name is not None and re.search(DECLARES % re.escape(name[2]), code) is not None
+
+
 def gives(action, macros, symbols):
     """What an action of flex's gives, with the macros put in: that is known where it returns on each way and each `return` gives the
     same, or where it never returns."""
@@ -183,9 +210,7 @@ def gives(action, macros, symbols):
     if mark:
         return Gives("token", (mark[1],)) if mark[1] else SKIP
     code = macros.spelled_out(action)
-    ends = [found.end() for found in re.finditer(rb"\breturn\b", without_literals(code))]
-    values = [operand(code, end) for end in ends]
-    found = [UNKNOWN if value is None else token_of(value, macros, symbols) for value in values]
+    found = returned(code, macros, symbols, macros.bodies)
     is_sure = not found or len({*found}) == 1 and always_returns(code)
     if changing(code) or not macros.changing.isdisjoint(WORD.findall(code)) or not is_sure:
         return Gives("unknown", tuple(dict.fromkeys(name for given in found for name in given.names)))

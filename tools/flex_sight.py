@@ -13,6 +13,7 @@ DECLARED = re.compile(rb"(?:\b(?!(?:return|else|do|new|case|throw|goto)\b)[A-Za-
 # A token's number, as yacc writes it into its header.
 NUMBERED = re.compile(rb"^[ \t]*#[ \t]*define[ \t]+[A-Za-z_]\w*[ \t]+\(?[0-9]\w*\)?[ \t]*\r?$", re.M)
 DIRECTIVE = re.compile(rb"^[ \t]*#(?:[^\n]*\\\r?\n)*[^\n]*", re.M)
+LITERAL = re.compile(rb"'(?:\\.|[^'\\\n])*'")
 WORD = re.compile(rb"[A-Za-z_]\w*")
 # Words before a statement, before parentheses that stand before one, and in a statement that is no macro's use.
 BEFORE, HEADS = {b"else", b"do", b"try"}, {b"if", b"for", b"while", b"switch", b"catch"}
@@ -63,6 +64,22 @@ def functions(code):
             end = Code(code).block_end(function.end()) or len(code)
             found.append((function[1], code[function.end() : end]))
     return found, b" ; ".join([*around, code[end:]])
+
+
+def free_functions(text):
+    """The bodies of the functions that a text defines and that belong to no class or namespace, by their names. The parameters
+    stand in front as what else is declared there."""
+    code, found, end, depth = LITERAL.sub(b" 0 ", blanked(DIRECTIVE.sub(b"", text))), {}, 0, 0
+    for function in FUNCTION.finditer(code):
+        if function.start() < end:
+            continue
+        between = code[end : function.start()]
+        depth += between.count(b"{") - between.count(b"}")
+        end = Code(code).block_end(function.end()) or len(code)
+        if depth == 0 and not between.rstrip().endswith(b"::"):
+            parameters = function[0].partition(b"(")[2].rpartition(b")")[0].replace(b",", b";")
+            found.setdefault(function[1], []).append(b"{" + parameters + b";" + code[function.end() + 1 : end])
+    return found
 
 
 def in_sight(text):

@@ -65,6 +65,10 @@ class Symbols:
         """The token whose number has this name, with the prefix; None where there is none."""
         return self.tokens.get(name) if not scope or scope[-1] in NUMBERED_BY else None
 
+    def may_be(self, name):
+        """Whether a name may be a token's: the grammar's tokens are, and without one what has no small letters."""
+        return name in self.tokens.values() if self.parsers else name == name.upper()
+
     def named(self, word):
         """The token that a word of an action names, if it names one."""
         made = word.removeprefix(b"make_")
