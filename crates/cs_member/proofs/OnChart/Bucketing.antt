@@ -19,8 +19,7 @@ use Rattle.cs_member.specs.Tables.Sets.{Has, InWords}
 use Rattle.cs_member.specs.Chart.Now.{AreHere, StandsIn, IsHere}
 use Rattle.cs_member.specs.Tables.Adding.{IsAdded}
 use Rattle.cs_member.specs.Chart.Chart.{IsRow, BucketOf, bucket_of, IsHeld, AreRows}
-use Rattle.cs_member.proofs.OnTables.Places.{at_left, at_end, at_push_cases, at_set, at_set_cases}
-use Rattle.cs_member.proofs.OnChart.Rows.{at_set_other}
+use Rattle.cs_member.proofs.OnTables.Places.{at_left, at_end, at_push_cases, at_set, at_set_cases, at_set_other}
 use Rattle.cs_member.proofs.OnChart.Putting.{not_both, awaited_within}
 
 pub bucket_next : (g : PlainGrammar) (x : Item) (next : Next) → IsGrammar g → IsNext g x next → IsHere g x → BucketOf g (bucket_of next) x

@@ -21,7 +21,8 @@ use Rattle.cs_member.specs.Chart.Chart.{StandsAt, OfBucket, OfBegun, OfScan, IsS
 use Rattle.cs_member.specs.Chart.Made.{IsChart, sets_of}
 use Rattle.cs_member.specs.Tables.Whole.{AreWhole}
 use Rattle.cs_member.proofs.OnTables.Places.{there_at, at_take}
-use Rattle.cs_member.proofs.OnChart.Putting.{one_awaited, awaited_within}
+use Rattle.cs_member.proofs.OnChart.Putting.{awaited_within}
+use Rattle.cs_member.proofs.OnTables.Entering.{one_awaited}
 
 module _ (g : PlainGrammar) (tables : Tables) (tokens : List ℕ) (chart : List Position) (grammar : IsGrammar g) (question : IsQuestion g tables)
     (corners : AreCorners (g.nonterminals + 1) tables.corners.items) (whole : AreWhole g tables) (is : IsChart g tables tokens (length tokens + 1) chart) where

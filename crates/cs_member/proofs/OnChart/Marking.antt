@@ -15,9 +15,8 @@ use Rattle.cs_member.specs.declared.chart.now.Origins.{Origins}
 use Rattle.cs_member.specs.Tables.Item.{Awaits}
 use Rattle.cs_member.specs.Tables.Sets.{Has}
 use Rattle.cs_member.specs.Chart.Chart.{BucketOf}
-use Rattle.cs_member.proofs.OnChart.Putting.{one_awaited}
-use Rattle.cs_member.proofs.OnTables.Places.{at_left, at_push_cases, at_set, at_set_cases, at_contains, all_contains, there_at}
-use Rattle.cs_member.proofs.OnChart.Rows.{at_set_other}
+use Rattle.cs_member.proofs.OnTables.Places.{at_left, at_push_cases, at_set, at_set_cases, at_contains, all_contains, there_at, at_set_other}
+use Rattle.cs_member.proofs.OnTables.Entering.{one_awaited}
 
 pub marks_none : (expected : List Bool) (pending : List ℕ) → Marks expected pending expected pending
 marks_none expected pending = record { size = refl; stays = λ a h. h; more = []; grown = sym (append-nil pending) }

@@ -16,6 +16,7 @@ use Rattle.cs_member.specs.declared.chart.now.Span.{Span}
 use Rattle.cs_member.specs.Tables.Item.{Awaits, IsDone, IsEmpty, NeverComes, over}
 use Rattle.cs_member.specs.Chart.Now.{StandsIn, SpansIn, Ends, Stood, IsKept, IsPast, IsPut, IsStep, IsPutTo}
 use Rattle.cs_member.proofs.OnChart.Rows.{spans_left, all_more}
+use Rattle.cs_member.proofs.OnTables.Entering.{one_awaited}
 
 pub not_both : (g : PlainGrammar) (x : Item) (s : Symbol) (a : ℕ) → Awaits g x s → IsDone g x a → ⊥
 not_both g x s a w d =
@@ -23,13 +24,6 @@ not_both g x s a w d =
     let lt = slice_get_within w.rule.right x.place s w.at in
     let whole : x.place ≡ length w.rule.right = d.whole ∙ ap (λ (p : Production). length p.right) (sym rule) in
     omega arith
-
-pub one_awaited : (g : PlainGrammar) (x : Item) (s t : Symbol) → Awaits g x s → Awaits g x t → s ≡ t
-one_awaited g x s t a b =
-    let rule = one_rule g x.rule x.rule a.rule b.rule refl a.number b.number in
-    let there : slice_get b.rule.right x.place ≡ Some s = subst (λ (p : Production). slice_get p.right x.place ≡ Some s) rule a.at in
-    let here = b.at in
-    cc
 
 pub one_done : (g : PlainGrammar) (x : Item) (a b : ℕ) → IsDone g x a → IsDone g x b → a ≡ b
 one_done g x a b d e = sym d.left ∙ ap (λ (p : Production). p.left) (one_rule g x.rule x.rule d.rule e.rule refl d.number e.number) ∙ e.left

@@ -1,5 +1,5 @@
 -- What stands at the position that is being made, and the spans that end there.
-use Rattle.std.proofs.Common.{◌≡◌, ℕ, zero, suc, ◌+◌, ◌*◌, ◌/◌, ◌%◌, ◌^◌, ◌<◌, ◌⊎◌, inl, inr, List, [], ◌∷◌, ◌++◌, Option, Some, length, refl, sym, ap, ◌∙◌, subst, arith, w64, append_assoc, append-nil}
+use Rattle.std.proofs.Common.{◌≡◌, ℕ, ◌+◌, ◌*◌, ◌/◌, ◌%◌, ◌^◌, ◌<◌, ◌⊎◌, inl, inr, List, [], ◌∷◌, ◌++◌, Option, Some, length, refl, sym, ap, ◌∙◌, subst, arith, w64, append_assoc, append-nil}
 use Rattle.std.specs.Prelude.{All, ◌↔◌, slice_get, bit_and}
 use Rattle.std.specs.Int.{bit_at, bit_not}
 use Rattle.std.proofs.Math.ListN.{set}
@@ -14,15 +14,7 @@ use Rattle.cs_member.specs.declared.chart.now.Origins.{Origins}
 use Rattle.cs_member.specs.declared.chart.now.Span.{Span}
 use Rattle.cs_member.specs.Tables.Sets.{Has, InWord}
 use Rattle.cs_member.specs.Chart.Now.{StandsIn, SpansIn, Stood, Ends}
-use Rattle.cs_member.proofs.OnTables.Places.{at_left, at_end, at_push_cases, at_set_cases, at_set}
-
-module _ {X : Type 0} where
-  pub at_set_other : (xs : List X) (k n : ℕ) (v x : X) → (n ≡ k → ⊥) → slice_get xs n ≡ Some x → slice_get (set xs k v) n ≡ Some x
-  at_set_other [] k n v x other e = e
-  at_set_other (y ∷ xs) zero zero v x other e = absurd (other refl)
-  at_set_other (y ∷ xs) zero (suc n) v x other e = e
-  at_set_other (y ∷ xs) (suc k) zero v x other e = e
-  at_set_other (y ∷ xs) (suc k) (suc n) v x other e = at_set_other xs k n v x (λ same. other (ap suc same)) e
+use Rattle.cs_member.proofs.OnTables.Places.{at_left, at_end, at_push_cases, at_set_cases, at_set, at_set_other}
 
 -- the set at a place gets more numbers
 pub stood_at : (rows : List Origins) (place : ℕ) (o p : Origins) (From : ℕ → Type 0) → slice_get rows place ≡ Some o → p.item ≡ o.item → ((n : ℕ) → Has p.set.items n ↔ (Has o.set.items n ⊎ From n)) → Stood o.item From rows (set rows place p)

@@ -16,8 +16,7 @@ use Rattle.cs_member.specs.declared.tables.empties.Found.{Found}
 use Rattle.cs_member.specs.Tables.Item.{IsEmpty}
 use Rattle.cs_member.specs.Tables.Tables.{HasEmpty, AreTrue, IsSaturated, IsFoundBefore, IsFurther, IsKeptRule, AreEmpties}
 use Rattle.std.proofs.lemmas.List.Elements.{All-weaker}
-use Rattle.cs_member.proofs.OnTables.Places.{at_set, at_set_cases}
-use Rattle.cs_member.proofs.OnChart.Rows.{at_set_other}
+use Rattle.cs_member.proofs.OnTables.Places.{at_set, at_set_cases, at_set_other}
 
 all_head : {X : Type 0} (P : X → Type 0) (x : X) (xs : List X) → All P (x ∷ xs) → P x
 all_head P x xs all = all 0 x (omega arith)

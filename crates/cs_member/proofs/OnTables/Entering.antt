@@ -23,12 +23,19 @@ use Rattle.cs_member.specs.Tables.Expecting.{AreCorners}
 use Rattle.cs_member.specs.Tables.Whole.{AreWhole}
 use Rattle.cs_member.proofs.OnTables.Lists.{added_size, added_here, added_before, added_cases}
 use Rattle.cs_member.proofs.OnTables.Places.{there_at}
-use Rattle.cs_member.proofs.OnChart.Putting.{one_awaited}
 
 pub same_item : (x : Item) (r k : ℕ) → x.rule ≡ r → x.place ≡ k → x ≡ record { rule = r; place = k }
 same_item x r k rule place =
     let one : x ≡ record { rule = r; place = x.place } = ap (λ n. let y : Item = record { rule = n; place = x.place } in y) rule in
     one ∙ ap (λ n. let y : Item = record { rule = r; place = n } in y) place
+
+-- at most one symbol is awaited
+pub one_awaited : (g : PlainGrammar) (x : Item) (s t : Symbol) → Awaits g x s → Awaits g x t → s ≡ t
+one_awaited g x s t a b =
+    let rule = one_rule g x.rule x.rule a.rule b.rule refl a.number b.number in
+    let there : slice_get b.rule.right x.place ≡ Some s = subst (λ (p : Production). slice_get p.right x.place ≡ Some s) rule a.at in
+    let here = b.at in
+    cc
 
 one_left : (g : PlainGrammar) (a b : ℕ) (x : Item) → IsFront g a x → IsFront g b x → a ≡ b
 one_left g a b x f h = sym f.left ∙ ap (λ (p : Production). p.left) (one_rule g x.rule x.rule f.rule h.rule refl f.number h.number) ∙ h.left

@@ -7,8 +7,7 @@ use Rattle.std.proofs.lemmas.Bool.{cases_eq}
 use Rattle.std.proofs.lemmas.Option.{slice_get_within, same_Some}
 use Rattle.std.proofs.lemmas.List.Elements.{Contains-push, Contains-push_cases, Contains-append_left}
 use Rattle.cs_member.specs.Tables.Adding.{IsAdded, HasAt}
-use Rattle.cs_member.proofs.OnTables.Places.{at_set, at_set_cases}
-use Rattle.cs_member.proofs.OnChart.Rows.{at_set_other}
+use Rattle.cs_member.proofs.OnTables.Places.{at_set, at_set_cases, at_set_other}
 
 module _ {X : Type 0} (n : ℕ) (entry : X) (old new : List (Vec X)) (added : IsAdded n entry old new) where
   pub added_size : length new ≡ length old

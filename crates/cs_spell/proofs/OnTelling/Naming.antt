@@ -18,7 +18,6 @@ use Rattle.cs_pattern_parts.specs.declared.kind.Kind.{Kind}
 use Rattle.cs_pattern_parts.specs.declared.kind.Kind.TheVariants as kinds
 use Rattle.cs_scanner.specs.Scan.Scan.{Scanning}
 use Rattle.cs_spell.specs.Telling.Chosen.{AreRuleVerdicts, IsWanted, RuleVerdict}
-use Rattle.cs_spell.specs.Writing.Putting.{AreNamed}
 use Rattle.cs_spell.specs.Telling.Seen.{all_told, told_of}
 use Rattle.cs_spell.specs.Telling.Spelling.{AreTold, IsShowing, IsTold, IsToldBy, IsToldIf, IsToldOf, Making}
 use Rattle.cs_spell.specs.Telling.Telling.{AreFewTokens, IsNamedShowing, IsNamedTold, IsNamedWay}
@@ -108,7 +107,7 @@ module _ (m : Making) (well : IsGrammar m.file.grammar) (names : length m.file.t
   mapped_at (x ∷ told) zero d less = refl
   mapped_at (x ∷ told) (suc i) d less = mapped_at told i d (omega (arith, less))
 
-  pub named_all : (told : List Told) → AreTold m (all_told told) → AreNamed m.file told
+  pub named_all : (told : List Told) → AreTold m (all_told told) → All (λ (one : Told). IsNamedTold m.file (told_of one)) told
   named_all told h i d less =
       let its = get_or m.scanning.kinds i kinds.Skip in
       let kind = slice_get-get_or m.scanning.kinds i kinds.Skip (omega (arith, less, h.all, length-map told told_of)) in

@@ -9,8 +9,9 @@ use Rattle.cs_grammar.proofs.OneTree.{one_rule}
 use Rattle.cs_member.specs.declared.tables.item.Item.{Item}
 use Rattle.cs_member.specs.declared.chart.now.Now.{Now}
 use Rattle.cs_member.specs.Tables.Sets.{InWords}
-use Rattle.cs_member.proofs.OnChart.Putting.{not_both, one_awaited, step_end, step_stand, step_none, step_last, put_none, put_step, put_last, past_more, awaited_within, other_token, same_token, past_whole}
+use Rattle.cs_member.proofs.OnChart.Putting.{not_both, step_end, step_stand, step_none, step_last, put_none, put_step, put_last, past_more, awaited_within, other_token, same_token, past_whole}
 use Rattle.cs_member.proofs.chart.now.put.Goals as goal
+use Rattle.cs_member.proofs.OnTables.Entering.{one_awaited}
 
 pub loop-place-init : goal.loop-place-init
 loop-place-init c = record {
