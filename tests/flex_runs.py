@@ -390,6 +390,20 @@ WITH_GRAMMAR = [
         "a return A;\nb check(); /*@token B*/\nc ;\n",
         "from_flex: l.l: no rule gives these tokens, so sentences with them have no text: C, D\n",
     ),
+    # What throws gives nothing, and is no skip.
+    (
+        "%token A\n%%\ns : A ;\n",
+        "a { if (x) return A; throw f(); }\nb { throw f(); }\nc { if (x) throw f(); }\nd { fail(x); }\ne { log(x); }\n"
+        "f { try { x = 1; } catch (...) { x = 2; } }\n%%\n"
+        "void fail(int x) { log(x); throw x; }\nvoid log(int x) { if (x < 0) throw x; }\n",
+        "a { if (x) return A; throw f(); }\nb /*@token not.a.token*/ { throw f(); }\n"
+        "c /*@token not.a.token*/ { if (x) throw f(); }\nd /*@token not.a.token*/ { fail(x); }\ne { log(x); }\n"
+        "f { try { x = 1; } catch (...) { x = 2; } }\n%%\n"
+        "void fail(int x) { log(x); throw x; }\nvoid log(int x) { if (x < 0) throw x; }\n",
+        f"from_flex: l.l:3:1: {KEPT}: b {{ throw f(); }}\n"
+        f"from_flex: l.l:4:1: {KEPT}: c {{ if (x) throw f(); }}\n"
+        f"from_flex: l.l:5:1: {KEPT}: d {{ fail(x); }}\n",
+    ),
     # Rules may give what the grammar doesn't use: by a mistake, or as a refusal.
     (
         "%define api.token.prefix {T_}\n%token A B\n%%\ns : A ;\n",

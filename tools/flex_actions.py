@@ -19,8 +19,10 @@ CALLS = re.compile(
 CHANGES = re.compile(rb"\b(?:BEGIN|REJECT)\b|\b(?:yymore|yyless|unput|input|" + CALLS.pattern + rb")\s*\(")
 # Through how many functions a call of one that reads on is followed.
 MOST_CALLS = 20
-# A call by which a text is refused.
-REFUSES = re.compile(rb"(?i)(?:error|fatal|abort|exit|panic|illegal|invalid|unexpected|unrecogni[sz]ed)\w*\s*\(")
+# By what a text is refused.
+REFUSES = re.compile(
+    rb"(?i)(?:error|fatal|abort|exit|panic|illegal|invalid|unexpected|unrecogni[sz]ed)\w*\s*\(|\bthrow\b|\b(?:sig)?longjmp\s*\("
+)
 # A mark of a token that no grammar has makes an action foreign.
 FOREIGN_MARK = b"/*@token not.a.token*/ "
 MARK = re.compile(rb"/\*@(?:skip|token[ \t]+(\S+))\*/")
@@ -71,6 +73,12 @@ def changing_functions(text):
     for _ in range(MOST_CALLS):
         found |= {name for name, called in words if not found.isdisjoint(called)}
     return found
+
+
+def throwing_functions(text):
+    """The functions that a file defines and that throw on each way."""
+    bodies, _ = functions(blanked(text))
+    return {name for name, body in bodies if b"return" not in WORD.findall(body) and always_returns(body)}
 
 
 def plainly(action):
@@ -214,7 +222,7 @@ def gives(action, macros, symbols):
     is_sure = not found or len({*found}) == 1 and always_returns(code)
     if changing(code) or not macros.changing.isdisjoint(WORD.findall(code)) or not is_sure:
         return Gives("unknown", tuple(dict.fromkeys(name for given in found for name in given.names)))
-    if not found and REFUSES.search(code):
+    if not found and (REFUSES.search(code) or not macros.throwing.isdisjoint(WORD.findall(code))):
         return UNKNOWN
     return found[0] if found else SKIP
 

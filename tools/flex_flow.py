@@ -1,4 +1,4 @@
-"""Whether a lex action returns on each way through it."""
+"""Whether a lex action returns on each way through it, or throws."""
 
 import re
 
@@ -8,11 +8,13 @@ LITERAL = rb"'(?:\\.|[^'\\\n])*'"
 PIECE = re.compile(LITERAL + rb"|[A-Za-z_]\w*|[0-9][\w.]*|::|\S", re.S)
 DIRECTIVE = re.compile(rb"^[ \t]*#[^\n]*", re.M)
 LEAVES = {b"break", b"continue"}
+# What ends an action: what throws returns nothing else.
+ENDS = {b"return", b"throw"}
 LABELS = {b"case", b"default"}
 # What stands behind the word of a loop that nothing but a jump ends.
 ENDLESS = ([b"(", b";", b";", b")"], [b"(", b"1", b")"], [b"(", b"true", b")"])
 # What begins a statement wherever it stands, as behind a macro that isn't in sight.
-BEGINS = {b"if", b"for", b"while", b"do", b"switch", b"try", b"return", *LEAVES}
+BEGINS = {b"if", b"for", b"while", b"do", b"switch", b"try", *ENDS, *LEAVES}
 # How deep statements are looked into.
 MOST_DEEP = 60
 
@@ -134,16 +136,16 @@ class Statements:
             piece = self.here()
             self.at += 1
             depth += {b"(": 1, b"[": 1, b"{": 1, b")": -1, b"]": -1, b"}": -1}.get(piece, 0)
-            is_end = piece == b";" or piece == b":" and word != b"return" or self.here() == b"}"
-            if depth == 0 and (is_end or word != b"return" and self.here() in BEGINS):
+            is_end = piece == b";" or piece == b":" and word not in ENDS or self.here() == b"}"
+            if depth == 0 and (is_end or word not in ENDS and self.here() in BEGINS):
                 break
         if self.here() in BEGINS and self.pieces[self.at - 1] == b")" and self.at - begin > 1:
             self.statement()
-        return word == b"return"
+        return word in ENDS
 
 
 def always_returns(code):
-    """Whether an action returns on each way through it, as far as its own text tells."""
+    """Whether an action returns or throws on each way through it, as far as its own text tells."""
     walk = Statements(code)
     returns = False
     while walk.here():

@@ -55,8 +55,10 @@ class Macros:
     """The macros that a text defines: for each its parameters, or None, and its body."""
 
     def __init__(self, text):
-        # The functions that are in sight, those that change what is scanned, and the bodies of those that belong to no class.
-        self.functions, self.changing, self.bodies, definitions = set(), set(), {}, {}
+        # The functions that are in sight, those that change what is scanned, and those that throw.
+        self.functions, self.changing, self.throwing = set(), set(), set()
+        # The bodies of the functions that belong to no class, by their names.
+        self.bodies, definitions = {}, {}
         for define in DEFINE.finditer(without_text(re.sub(rb"\\\r?\n", b" ", text))):
             body = define["body"].strip()
             listed = None if define["parameters"] is None else [name.strip() for name in define["parameters"].split(b",")]
